@@ -1,0 +1,106 @@
+-- What the digits of a number are to those of its quotient.
+use Rattle.std.proofs.Common.{zero, Bool, Option, Some, None, Result, Ok, Err, ◌≢◌, drop, append_assoc, ◌≡◌, ℕ, suc, ◌+◌, ◌*◌, ◌/◌, ◌%◌, ◌^◌, ◌<◌, ◌≤◌, List, [], ◌∷◌, ◌++◌, length, map, refl, sym, ap, ◌∙◌, arith, rules, length-append, get_or, add-one}
+use Rattle.std.proofs.Math.Nat.{pow-suc, pow-zero, mod-eq_of_lt, mul-le-mul_left, div-lt_iff_lt-mul, le-div_iff_mul-le, div-le_self}
+use Rattle.std.proofs.lemmas.Grind.{common_steps}
+use Rattle.std.proofs.lemmas.List.{map_push}
+use Rattle.std.specs.Fmt.{digit_glyph}
+use Rattle.std.specs.Char.{digit_value}
+use Rattle.std.specs.Option.{SomeIff}
+use Rattle.std.specs.Result.{result_ok}
+use Rattle.std.specs.Int.Digits.{number_from_digits_after}
+use Rattle.std.specs.Str.Parse.{AllDigits, digits_value, ParsesUnsigned, without_leading_plus}
+use Rattle.std.proofs.lemmas.Int.Digits.{digits_value_is}
+use Rattle.std.proofs.lemmas.Str.Parse.{without_leading_plus_none}
+use Rattle.numerals.specs.Numeral.{place_sum, AllBelow, IsNumeral, IsNumeralText, AddsNumeral, HasDigits, IsDigitText, text_value}
+
+pub place_sum-push : (b d : ℕ) (ds : List ℕ) → place_sum b (ds ++ d ∷ []) ≡ place_sum b ds * b + d
+place_sum-push b d [] = grind (arith, common_steps)
+place_sum-push b d (x ∷ xs) =
+    let len : length (xs ++ d ∷ []) ≡ suc (length xs) = omega (arith, length-append xs (d ∷ [])) in
+    let ih : place_sum b (xs ++ d ∷ []) ≡ place_sum b xs * b + d = place_sum-push b d xs in
+    rw (len, pow-suc, ih) (omega arith)
+
+pub AllBelow-push : (b d : ℕ) (ds : List ℕ) → AllBelow b ds → d < b → AllBelow b (ds ++ d ∷ [])
+AllBelow-push b d [] h k = (k, tt)
+AllBelow-push b d (x ∷ xs) h k = (h.0, AllBelow-push b d xs h.1 k)
+
+pub IsNumeral-small : (b d : ℕ) → d < b → IsNumeral b d (d ∷ [])
+IsNumeral-small b d h = record { some = omega arith; below = (h, tt); adds_up = grind (arith, common_steps); no_leading_zero = λ k. absurd (omega (arith, k)) }
+
+pub leads : (b n : ℕ) (ds : List ℕ) (d : ℕ) → 0 < n → IsNumeral b n ds → 0 < get_or (ds ++ d ∷ []) 0 0
+leads b n [] d h k = absurd (omega (arith, k.some))
+leads b n (x ∷ []) d h k = grind (arith, common_steps, k.adds_up)
+leads b n (x ∷ y ∷ ys) d h k = k.no_leading_zero (omega arith)
+
+pub IsNumeral-push : (b n : ℕ) (ds : List ℕ) → 0 < b → b ≤ n → IsNumeral b (n / b) ds → IsNumeral b n (ds ++ n % b ∷ [])
+IsNumeral-push b n ds pos high k =
+    let quot : 0 < n / b = (le-div_iff_mul-le pos).1 (omega arith) in
+    record {
+      some = omega (arith, length-append ds (n % b ∷ []));
+      below = AllBelow-push b (n % b) ds k.below (omega arith);
+      adds_up = rw (place_sum-push b (n % b) ds, k.adds_up) (omega arith);
+      no_leading_zero = λ _. leads b (n / b) ds (n % b) quot k;
+    }
+
+-- a number below its base fits one digit
+pub one_fits : (b n : ℕ) → n < b → n < b ^ 1
+one_fits b n h = rw (pow-suc b 0, pow-zero b) (omega arith)
+
+-- a number fits one digit more than its quotient
+pub more_fits : (b n r : ℕ) → 0 < b → n / b < b ^ r → n < b ^ (1 + r)
+more_fits b n r pos h =
+    let e : b ^ (1 + r) ≡ b ^ r * b = grind (arith, pow-suc b r) in
+    rw e ((div-lt_iff_lt-mul pos).0 h)
+
+-- a number of k bits has at most k digits, where that holds of its quotient
+pub more_short : (b n r : ℕ) → 2 ≤ b → b ≤ n → ((k : ℕ) → 0 < k → n / b < 2 ^ k → r ≤ k) → (k : ℕ) → 0 < k → n < 2 ^ k → 1 + r ≤ k
+more_short b n r low high ih zero pos lt = absurd (omega (arith, pos))
+more_short b n r low high ih (suc zero) pos lt = absurd (omega (arith, lt))
+more_short b n r low high ih (suc (suc j)) pos lt =
+    let half : n < 2 ^ suc j * 2 = rw (pow-suc 2 (suc j)) at lt in
+    let wide : 2 ^ suc j * 2 ≤ 2 ^ suc j * b = mul-le-mul_left (2 ^ suc j) low in
+    let below : n / b < 2 ^ suc j = (div-lt_iff_lt-mul (omega arith)).1 (omega arith) in
+    omega (arith, ih (suc j) (omega arith) below)
+
+-- one more glyph writes one more digit
+pub adds_one : (b n : ℕ) (upper : Bool) (old new : List ℕ) → n < b → new ≡ old ++ digit_glyph upper n ∷ [] → AddsNumeral old new b n upper
+adds_one b n upper old new h e = (digit_glyph upper n ∷ [], (n ∷ [], IsNumeral-small b n h, refl), e)
+
+pub adds_more : (b n : ℕ) (upper : Bool) (old mid new : List ℕ) → 0 < b → b ≤ n → AddsNumeral old mid b (n / b) upper → new ≡ mid ++ digit_glyph upper (n % b) ∷ [] → AddsNumeral old new b n upper
+adds_more b n upper old mid new pos high a e =
+    let ds : List ℕ = a.1.0 in
+    let all : new ≡ old ++ map (digit_glyph upper) (ds ++ n % b ∷ []) =
+    e ∙ ap (λ (x : List ℕ). x ++ digit_glyph upper (n % b) ∷ []) (a.2 ∙ ap (λ (x : List ℕ). old ++ x) a.1.2)
+    ∙ append_assoc old _ _ ∙ ap (λ (x : List ℕ). old ++ x) (sym (map_push (digit_glyph upper) ds (n % b))) in
+    (map (digit_glyph upper) (ds ++ n % b ∷ []), (ds ++ n % b ∷ [], IsNumeral-push b n ds pos high a.1.1, refl), all)
+
+-- std's reading of digits, by place values
+number_after-place_sum : (b n : ℕ) (ds : List ℕ) → number_from_digits_after b n ds ≡ n * b ^ length ds + place_sum b ds
+number_after-place_sum b n [] = grind (arith, common_steps, pow-zero b)
+number_after-place_sum b n (d ∷ ds) =
+    let ih : number_from_digits_after b (n * b + d) ds ≡ (n * b + d) * b ^ length ds + place_sum b ds = number_after-place_sum b (n * b + d) ds in
+    rw (ih, pow-suc b (length ds)) (omega arith)
+
+pub digits_value-text_value : (b : ℕ) (bs : List ℕ) → digits_value b bs ≡ text_value b bs
+digits_value-text_value b bs = digits_value_is b bs ∙ number_after-place_sum b 0 (map digit_value bs) ∙ omega arith
+
+pub AllBelow-from_digits : (b : ℕ) (bs : List ℕ) → AllDigits b bs → AllBelow b (map digit_value bs)
+AllBelow-from_digits b [] h = tt
+AllBelow-from_digits b (c ∷ cs) h = (h.0, AllBelow-from_digits b cs h.1)
+
+pub digits_from-AllBelow : (b : ℕ) (bs : List ℕ) → AllBelow b (map digit_value bs) → AllDigits b bs
+digits_from-AllBelow b [] h = tt
+digits_from-AllBelow b (c ∷ cs) h = (h.0, digits_from-AllBelow b cs h.1)
+
+-- what std's reading answers of a text that does not begin with a plus
+pub reads_text : {E : Type 0} (b : ℕ) (bs : List ℕ) (r : Result ℕ E) → get_or bs 0 0 ≢ 43 → ParsesUnsigned 128 b bs r → SomeIff (result_ok r) (IsDigitText b bs × (text_value b bs < 2 ^ 128)) (text_value b bs)
+reads_text b bs (Ok x) plain h =
+    let same : without_leading_plus bs ≡ bs = without_leading_plus_none bs plain in
+    let k = rw same at h in
+    let v : digits_value b bs ≡ text_value b bs = digits_value-text_value b bs in
+    (((k.0.0.0, AllBelow-from_digits b bs k.0.0.1), omega (arith, v, k.0.1)), k.1 ∙ v)
+reads_text b bs (Err e) plain h = λ p.
+    let same : without_leading_plus bs ≡ bs = without_leading_plus_none bs plain in
+    let k = rw same at h in
+    let v : digits_value b bs ≡ text_value b bs = digits_value-text_value b bs in
+    k ((p.0.0, digits_from-AllBelow b bs p.0.1), omega (arith, v, p.1))
