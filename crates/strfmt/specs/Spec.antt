@@ -1,0 +1,43 @@
+-- What callers see of a formatter.
+use Rattle.std.specs.Prelude.{ℕ, List, [], Option, Bool, true, false, unwrap_or}
+use Rattle.strfmt.specs.declared.types.Alignment.{Alignment}
+use Rattle.strfmt.specs.declared.types.Alignment.TheVariants.{Unspecified, Left, Center, Right, Equal}
+use Rattle.strfmt.specs.declared.types.Sign.{Sign}
+
+-- a specification: the fill and the type are characters, the width and the precision count characters
+pub record Spec : Type 0 where
+  pub fill : ℕ
+  pub align : Alignment
+  pub sign : Sign
+  pub alternate : Bool
+  pub width : Option ℕ
+  pub thousands : Bool
+  pub precision : Option ℕ
+  pub ty : Option ℕ
+
+-- a pattern with its key and its specification, and the text that was written so far
+pub record View : Type 0 where
+  pub key : List ℕ
+  pub pattern : List ℕ
+  pub spec : Spec
+  pub text : List ℕ
+
+-- the second alignment where the first is unspecified
+abbrev pub align_or : Alignment → Alignment → Alignment
+align_or Unspecified default = default
+align_or Left default = Left
+align_or Center default = Center
+align_or Right default = Right
+align_or Equal default = Equal
+
+-- the specification with a default alignment
+abbrev pub aligned : Alignment → Spec → Spec
+aligned default spec = record spec { align = align_or spec.align default }
+
+-- the formatter with a default alignment
+abbrev pub view_aligned : Alignment → View → View
+view_aligned default view = record view { spec = aligned default view.spec }
+
+-- the least number of characters of a field
+abbrev pub width_of : Spec → ℕ
+width_of spec = unwrap_or spec.width 0

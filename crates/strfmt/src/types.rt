@@ -1,0 +1,50 @@
+// Alignments, signs and the error of the crate.
+
+ghost use Rattle.std.specs.Prelude.{◌≡◌, ◌↔◌, IsTrue};
+
+use std::error::Error;
+use std::fmt;
+
+/// Where a field's text stands within its width.
+#[derive(Debug, Clone, PartialEq, Drop)]
+pub enum Alignment {
+    Unspecified,
+    Left,
+    Center,
+    Right,
+    /// The fill would stand between a sign and its digits; where padding is needed it is refused.
+    Equal,
+}
+
+/// The sign of a specification.
+#[derive(Debug, Clone, PartialEq, Drop)]
+pub enum Sign {
+    Unspecified,
+    Plus,
+    Minus,
+    Space,
+}
+
+impl Sign {
+    ghost use Rattle.strfmt.specs.Field.{is_unspecified};
+
+    pub fn is_unspecified(&self) -> bool
+        ensures { result ≡ is_unspecified self.now }
+    {
+        matches!(self, Sign::Unspecified)
+    }
+}
+
+/// Why a text, a pattern or a value is refused, with a message.
+#[derive(Debug, PartialEq, Drop)]
+pub enum FmtError {
+    /// The text, the pattern or the specification is malformed, or asks for what isn't supported.
+    Invalid(String),
+    /// A key that doesn't read, or has no value in the map.
+    KeyError(String),
+    /// A specification that doesn't fit the type of its value.
+    TypeError(String),
+    NoMemory,
+}
+
+pub type Result<T> = std::result::Result<T, FmtError>;
