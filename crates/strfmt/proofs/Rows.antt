@@ -8,7 +8,8 @@ use Rattle.numerals.specs.Numeral.{numeral}
 use Rattle.strfmt.specs.Fault.{Fault, Outcome, invalid, key_error, type_error}
 use Rattle.strfmt.specs.Message.{lone_brace}
 use Rattle.strfmt.specs.Spec.{Spec, View}
-use Rattle.strfmt.specs.Pattern.{read_pattern, alignment_of, sign_of, aligned_part, digits_part, precision_part, parts_of}
+use Rattle.strfmt.specs.Pattern.{read_pattern}
+use Rattle.strfmt.specs.Parts.{alignment_part, sign_part, aligned_part, number_part, parts_of}
 use Rattle.strfmt.specs.Field.{padded, text_field, integer_field, unsigned, signed}
 use Rattle.strfmt.specs.Piece.{Piece, ordinary, escape, pattern, Break, lone, nested, unclosed}
 use Rattle.strfmt.specs.Text.{Meaning, joined, filled_pattern}
@@ -32,72 +33,73 @@ abbrev t : List ℕ → Meaning
 t text spec = text_field spec text
 
 two_patterns : joined (filled_pattern name_and_job) (ordinary 104 ∷ pattern (codes "name") ∷ ordinary 33 ∷ escape 123 ∷ pattern (codes "job:.6") ∷ []) None ≡ Ok (codes "hbob!{python")
-unfolding chars alignment_of sign_of aligned_part digits_part precision_part parts_of padded encode
+unfolding chars read_pattern alignment_part sign_part aligned_part number_part parts_of padded encode
 two_patterns = refl
 
 signed_prefix : under (u 255) (codes "x:+#x") ≡ Ok (codes "+0xff")
-unfolding chars alignment_of sign_of aligned_part digits_part precision_part parts_of padded numeral encode
+unfolding chars read_pattern alignment_part sign_part aligned_part number_part parts_of padded numeral encode
 signed_prefix = refl
 
 wide_prefix : under (u 255) (codes "x:#10X") ≡ Ok (codes "0x        FF")
-unfolding chars alignment_of sign_of aligned_part digits_part precision_part parts_of padded numeral encode
+unfolding chars read_pattern alignment_part sign_part aligned_part number_part parts_of padded numeral encode
 wide_prefix = refl
 
 centered : under (t (codes "ab")) (codes "x:^7") ≡ Ok (codes "  ab   ")
-unfolding chars alignment_of sign_of aligned_part digits_part precision_part parts_of padded encode
+unfolding chars read_pattern alignment_part sign_part aligned_part number_part parts_of padded encode
 centered = refl
 
 precise : under (t (195 ∷ 169 ∷ 97 ∷ [])) (codes "x:.1") ≡ Ok (195 ∷ 169 ∷ [])
-unfolding chars alignment_of sign_of aligned_part digits_part precision_part parts_of padded encode
+unfolding chars read_pattern alignment_part sign_part aligned_part number_part parts_of padded encode
 precise = refl
 
 zero_filled : under (u 42) (codes "x:05") ≡ Err (invalid (codes "sign aware zero padding and Align '=' not yet supported"))
-unfolding chars alignment_of sign_of aligned_part digits_part precision_part parts_of padded numeral encode
+unfolding chars read_pattern alignment_part sign_part aligned_part number_part parts_of padded numeral encode
 zero_filled = refl
 
 zero_after_alignment : under (u 42) (codes "x:<05") ≡ Err (invalid (codes "sign aware zero padding and Align '=' not yet supported"))
-unfolding chars alignment_of sign_of aligned_part digits_part precision_part parts_of padded numeral encode
+unfolding chars read_pattern alignment_part sign_part aligned_part number_part parts_of padded numeral encode
 zero_after_alignment = refl
 
 zero_without_padding : under (u 42) (codes "x:01") ≡ Ok (codes "42")
-unfolding chars alignment_of sign_of aligned_part digits_part precision_part parts_of padded numeral encode
+unfolding chars read_pattern alignment_part sign_part aligned_part number_part parts_of padded numeral encode
 zero_without_padding = refl
 
 zero_fill_right : under (u 1) (codes "x:0>") ≡ Err (invalid (codes "sign aware 0 padding not yet supported"))
-unfolding chars alignment_of sign_of aligned_part digits_part precision_part parts_of padded numeral encode
+unfolding chars read_pattern alignment_part sign_part aligned_part number_part parts_of padded numeral encode
 zero_fill_right = refl
 
 empty_key : under (u 1) [] ≡ Err (invalid (codes "must specify identifier"))
+unfolding read_pattern
 empty_key = refl
 
 key_without_value : filled_pattern (x_is (u 1)) (codes "b") ≡ Err (key_error (codes "Invalid key: b"))
-unfolding chars alignment_of sign_of aligned_part digits_part precision_part parts_of padded encode
+unfolding chars read_pattern alignment_part sign_part aligned_part number_part parts_of padded encode
 key_without_value = refl
 
 broken : joined (filled_pattern (x_is (u 1))) (pattern (codes "x") ∷ []) (Some lone) ≡ Err (invalid lone_brace)
-unfolding chars alignment_of sign_of aligned_part digits_part precision_part parts_of padded numeral encode
+unfolding chars read_pattern alignment_part sign_part aligned_part number_part parts_of padded numeral encode
 broken = refl
 
 unknown_type : under (u 1) (codes "x:k") ≡ Err (type_error (codes "Invalid type specifier: 'k'"))
-unfolding chars alignment_of sign_of aligned_part digits_part precision_part parts_of
+unfolding chars read_pattern alignment_part sign_part aligned_part number_part parts_of
 unknown_type = refl
 
 tab_as_type : under (u 1) (codes "x:" ++ 9 ∷ []) ≡ Err (type_error (codes "Invalid type specifier: '\\t'"))
-unfolding chars alignment_of sign_of aligned_part digits_part precision_part parts_of
+unfolding chars read_pattern alignment_part sign_part aligned_part number_part parts_of
 tab_as_type = refl
 
 comma_with_type : under (u 1) (codes "x:,x") ≡ Err (invalid (codes "Invalid comma type: x"))
-unfolding chars alignment_of sign_of aligned_part digits_part precision_part parts_of
+unfolding chars read_pattern alignment_part sign_part aligned_part number_part parts_of
 comma_with_type = refl
 
 wide : under (u 1) (codes "x:99999999999999999999") ≡ Err (invalid (codes "overflow error when parsing width"))
-unfolding chars alignment_of sign_of aligned_part digits_part precision_part parts_of
+unfolding chars read_pattern alignment_part sign_part aligned_part number_part parts_of
 wide = refl
 
 filled_with_a_character : under (λ spec. integer_field spec (signed w8 (negsuc 0))) (codes "x:" ++ 195 ∷ 169 ∷ codes "^#11b") ≡ Ok (codes "0b" ++ (195 ∷ 169 ∷ codes "11111111" ++ (195 ∷ 169 ∷ 195 ∷ 169 ∷ [])))
-unfolding chars alignment_of sign_of aligned_part digits_part precision_part parts_of padded numeral encode
+unfolding chars read_pattern alignment_part sign_part aligned_part number_part parts_of padded numeral encode
 filled_with_a_character = refl
 
 negative : under (λ spec. integer_field spec (signed w32 (negsuc 41))) (codes "x:*<+6") ≡ Ok (codes "-42***")
-unfolding chars alignment_of sign_of aligned_part digits_part precision_part parts_of padded numeral encode
+unfolding chars read_pattern alignment_part sign_part aligned_part number_part parts_of padded numeral encode
 negative = refl

@@ -16,6 +16,11 @@ IsFault (KeyError message) fault = fault ≡ key_error (string_bytes message)
 IsFault (TypeError message) fault = fault ≡ type_error (string_bytes message)
 IsFault NoMemory fault = ⊥
 
+-- the error is the refusal in this result
+abbrev pub IsRefusal : {A : Type 0} → Result A Fault → FmtError → Type 0
+IsRefusal (Ok x) error = ⊥
+IsRefusal (Err fault) error = IsFault error fault
+
 -- a text, or the refusal in its place
 abbrev pub Outcome : Type 0
 Outcome = Result (List ℕ) Fault

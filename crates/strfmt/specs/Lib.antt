@@ -1,6 +1,7 @@
 pub mod Fault
 pub mod Message
 pub mod Spec
+pub mod Parts
 pub mod Pattern
 pub mod Field
 pub mod Piece

@@ -1,8 +1,9 @@
 -- What callers see of a formatter.
-use Rattle.std.specs.Prelude.{ℕ, List, [], Option, Bool, true, false, unwrap_or}
+use Rattle.std.specs.Prelude.{◌≡◌, ◌++◌, ℕ, List, Option, Bool, unwrap_or, Ok, Err}
 use Rattle.strfmt.specs.declared.types.Alignment.{Alignment}
 use Rattle.strfmt.specs.declared.types.Alignment.TheVariants.{Unspecified, Left, Center, Right, Equal}
 use Rattle.strfmt.specs.declared.types.Sign.{Sign}
+use Rattle.strfmt.specs.Fault.{Outcome}
 
 -- a specification: the fill and the type are characters, the width and the precision count characters
 pub record Spec : Type 0 where
@@ -37,6 +38,11 @@ aligned default spec = record spec { align = align_or spec.align default }
 -- the formatter with a default alignment
 abbrev pub view_aligned : Alignment → View → View
 view_aligned default view = record view { spec = aligned default view.spec }
+
+-- the new formatter is the old one with this text at its end
+abbrev pub IsAppended : Outcome → View → View → Type 0
+IsAppended (Ok text) old new = new ≡ record old { text = old.text ++ text }
+IsAppended (Err fault) old new = ⊥
 
 -- the least number of characters of a field
 abbrev pub width_of : Spec → ℕ
