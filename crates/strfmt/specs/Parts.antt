@@ -1,5 +1,5 @@
 -- How a specification is written. All are bytes but for the fill, which is a character.
-use Rattle.std.specs.Prelude.{ℕ, ◌+◌, List, [], ◌∷◌, Bool, true, false, Option, Some, None, if◌then◌else◌, ◌==◌, is_some, is_none, slice_index, drop, take_while, length, chars}
+use Rattle.std.specs.Prelude.{ℕ, ◌+◌, ◌-◌, ◌^◌, min, option_map, List, [], ◌∷◌, Bool, true, false, Option, Some, None, if◌then◌else◌, ◌==◌, is_some, slice_index, drop, take_while, length, chars}
 use Rattle.std.specs.Char.{is_ascii_digit, len_utf8}
 use Rattle.std.specs.Str.Parse.{digits_value}
 use Rattle.strfmt.specs.declared.types.Alignment.{Alignment}
@@ -61,17 +61,21 @@ pub record Aligned : Type 0 where
   pub fill : Option ℕ
   pub align : Option Alignment
 
+-- the alignment after a first character
+abbrev pub filled_part : List ℕ → Part (Option Alignment)
+filled_part text = alignment_part (first_char text).rest
+
 unfoldable pub aligned_part : List ℕ → Part Aligned
 aligned_part text =
-    let char = first_char text in
-    let second = alignment_part char.rest in
+    let second = filled_part text in
     let alone = alignment_part text in
-    if is_some second.value then record { value = record { fill = Some char.value; align = second.value }; rest = second.rest }
+    if is_some second.value then record { value = record { fill = Some (first_char text).value; align = second.value }; rest = second.rest }
     else record { value = record { fill = None; align = alone.value }; rest = alone.rest }
 
 -- the number that decimal digits write, if there are any
 abbrev pub number_of : List ℕ → Option ℕ
-number_of digits = if length digits == 0 then None else Some (digits_value 10 digits)
+number_of [] = None
+number_of (digit ∷ digits) = Some (digits_value 10 (digit ∷ digits))
 
 unfoldable pub number_part : List ℕ → Part (Option ℕ)
 number_part text =
@@ -91,17 +95,27 @@ pub record Parts : Type 0 where
   pub precision : Option ℕ
   pub left : List ℕ
 
--- each part is optional; a `0` is one only where no fill stands, and a precision only after a dot
+-- a zero, only where no fill stands
+abbrev pub zero_part : Option ℕ → List ℕ → Part Bool
+zero_part None text = flag 48 text
+zero_part (Some fill) text = record { value = false; rest = text }
+
+-- a number, only after a dot
+abbrev pub precision_part : Bool → List ℕ → Part (Option ℕ)
+precision_part true text = number_part text
+precision_part false text = record { value = None; rest = text }
+
+-- each part is optional
 unfoldable pub parts_of : List ℕ → Parts
 parts_of text =
     let aligned = aligned_part text in
     let sign = sign_part aligned.rest in
     let alternate = flag 35 sign.rest in
-    let zero = if is_none aligned.value.fill then flag 48 alternate.rest else record { value = false; rest = alternate.rest } in
+    let zero = zero_part aligned.value.fill alternate.rest in
     let width = number_part zero.rest in
     let thousands = flag 44 width.rest in
     let dot = flag 46 thousands.rest in
-    let precision = if dot.value then number_part dot.rest else record { value = None; rest = dot.rest } in
+    let precision = precision_part dot.value dot.rest in
     record {
       fill = aligned.value.fill;
       align = aligned.value.align;
@@ -114,3 +128,10 @@ parts_of text =
       precision = precision.value;
       left = precision.rest;
     }
+
+-- the parts, with each number that is too large for its type at the type's last value
+abbrev pub capped_number : Option ℕ → Option ℕ
+capped_number number = option_map (λ n. min n (2 ^ 64 - 1)) number
+
+abbrev pub capped : Parts → Parts
+capped parts = record parts { width = capped_number parts.width; precision = capped_number parts.precision }

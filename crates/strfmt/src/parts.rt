@@ -1,0 +1,206 @@
+// A specification as it is written, cut into its parts.
+
+ghost use Rattle.std.specs.Prelude.{◌≡◌, ◌<◌, MatchOption};
+ghost use Rattle.strfmt.specs.Parts.{flag, sign_of, sign_part, alignment_of, alignment_part, first_char, filled_part, aligned_part, zero_part, number_part, precision_part, parts_of, capped, capped_number};
+
+use crate::{Alignment, Sign};
+use std::marker::Model;
+
+/// The parts of a specification; a number that is too large stands at its type's last value.
+#[derive(Drop)]
+pub(crate) struct Parts<'a> {
+    pub(crate) fill: Option<char>,
+    pub(crate) align: Option<Alignment>,
+    pub(crate) sign: Option<Sign>,
+    pub(crate) alternate: bool,
+    pub(crate) zero: bool,
+    pub(crate) width: Option<usize>,
+    pub(crate) thousands: bool,
+    pub(crate) dot: bool,
+    pub(crate) precision: Option<usize>,
+    pub(crate) left: &'a [u8],
+}
+
+impl<'a> Model for Parts<'a> {
+    ghost use Rattle.strfmt.specs.Parts.{Parts as WrittenParts};
+
+    ghost Value = { WrittenParts };
+
+    ghost view = { λ it. record {
+        fill = it.fill;
+        align = it.align;
+        sign = it.sign;
+        alternate = it.alternate;
+        zero = it.zero;
+        width = it.width;
+        thousands = it.thousands;
+        dot = it.dot;
+        precision = it.precision;
+        left = it.left.now;
+    } };
+}
+
+/// An optional byte, and the bytes after it.
+fn flag(text: &[u8], byte: u8) -> (bool, &[u8])
+    requires { 0 < byte }
+    ensures value { result.0 ≡ (flag byte text.now).value }
+    ensures rest { result.1.now ≡ (flag byte text.now).rest }
+{
+    match text.split_first() {
+        Some((first, rest)) if *first == byte => (true, rest),
+        _ => (false, text),
+    }
+}
+
+fn alignment_of(byte: u8) -> Option<Alignment>
+    ensures { result ≡ alignment_of byte }
+{
+    match byte {
+        b'<' => Some(Alignment::Left),
+        b'^' => Some(Alignment::Center),
+        b'>' => Some(Alignment::Right),
+        b'=' => Some(Alignment::Equal),
+        _ => None,
+    }
+}
+
+/// An optional alignment, and the bytes after it.
+#[tactic(auto, unfolding(crate::specs::Parts::alignment_part))]
+fn alignment(text: &[u8]) -> (Option<Alignment>, &[u8])
+    ensures value { result.0 ≡ (alignment_part text.now).value }
+    ensures rest { result.1.now ≡ (alignment_part text.now).rest }
+{
+    if let Some((first, rest)) = text.split_first() {
+        if let Some(align) = alignment_of(*first) {
+            return (Some(align), rest);
+        }
+    }
+    (None, text)
+}
+
+fn sign_of(byte: u8) -> Option<Sign>
+    ensures { result ≡ sign_of byte }
+{
+    match byte {
+        b' ' => Some(Sign::Space),
+        b'-' => Some(Sign::Minus),
+        b'+' => Some(Sign::Plus),
+        _ => None,
+    }
+}
+
+/// An optional sign, and the bytes after it.
+#[tactic(auto, unfolding(crate::specs::Parts::sign_part))]
+fn sign(text: &[u8]) -> (Option<Sign>, &[u8])
+    ensures value { result.0 ≡ (sign_part text.now).value }
+    ensures rest { result.1.now ≡ (sign_part text.now).rest }
+{
+    if let Some((first, rest)) = text.split_first() {
+        if let Some(sign) = sign_of(*first) {
+            return (Some(sign), rest);
+        }
+    }
+    (None, text)
+}
+
+/// The first character, and the text after it.
+fn first_char(text: &str) -> Option<(char, &str)>
+    ensures { MatchOption result ((filled_part text.now).value ≡ None) (λ x. first_char text.now ≡ record { value = x.0; rest = x.1.now }) }
+{
+    let mut chars = text.chars();
+    let first = chars.next()?;
+    Some((first, chars.as_str()))
+}
+
+/// A fill with an alignment after it, and the bytes after them.
+fn fill_then_alignment(text: &str) -> Option<(char, Alignment, &[u8])>
+    ensures { MatchOption result ((filled_part text.now).value ≡ None) (λ x. ((first_char text.now).value ≡ x.0) × ((filled_part text.now).value ≡ Some x.1) × ((filled_part text.now).rest ≡ x.2.now)) }
+{
+    let (fill, after) = first_char(text)?;
+    match alignment(after.as_bytes()) {
+        (Some(align), rest) => Some((fill, align, rest)),
+        (None, _) => None,
+    }
+}
+
+/// A fill with an alignment after it, or an alignment alone, and the bytes after them.
+#[tactic(auto, unfolding(crate::specs::Parts::aligned_part))]
+fn fill_and_alignment(text: &str) -> (Option<char>, Option<Alignment>, &[u8])
+    ensures fill { result.0 ≡ (aligned_part text.now).value.fill }
+    ensures align { result.1 ≡ (aligned_part text.now).value.align }
+    ensures rest { result.2.now ≡ (aligned_part text.now).rest }
+{
+    if let Some((fill, align, rest)) = fill_then_alignment(text) {
+        return (Some(fill), Some(align), rest);
+    }
+    let (align, rest) = alignment(text.as_bytes());
+    (None, align, rest)
+}
+
+/// A zero flag, which there is only where no fill stands.
+fn zero_flag(fill: Option<char>, text: &[u8]) -> (bool, &[u8])
+    ensures value { result.0 ≡ (zero_part fill text.now).value }
+    ensures rest { result.1.now ≡ (zero_part fill text.now).rest }
+{
+    if fill.is_none() {
+        flag(text, b'0')
+    } else {
+        (false, text)
+    }
+}
+
+/// An optional number in decimal digits, and the bytes after it.
+fn number(text: &[u8]) -> (Option<usize>, &[u8])
+    ensures value { result.0 ≡ capped_number (number_part text.now).value }
+    ensures rest { result.1.now ≡ (number_part text.now).rest }
+{
+    let mut value: Option<usize> = None;
+    let mut rest = text;
+    while let Some((first, tail)) = rest.split_first() {
+        if !first.is_ascii_digit() {
+            break;
+        }
+        let digit = usize::from(*first - b'0');
+        value = Some(value.unwrap_or(0).saturating_mul(10).saturating_add(digit));
+        rest = tail;
+    }
+    (value, rest)
+}
+
+/// The number after a dot.
+fn number_after(dot: bool, text: &[u8]) -> (Option<usize>, &[u8])
+    ensures value { result.0 ≡ capped_number (precision_part dot text.now).value }
+    ensures rest { result.1.now ≡ (precision_part dot text.now).rest }
+{
+    if dot {
+        number(text)
+    } else {
+        (None, text)
+    }
+}
+
+/// Cuts a specification into its parts.
+pub(crate) fn parse(text: &str) -> Parts<'_>
+    ensures { result ≡ capped (parts_of text.now) }
+{
+    let (fill, align, rest) = fill_and_alignment(text);
+    let (sign, rest) = sign(rest);
+    let (alternate, rest) = flag(rest, b'#');
+    let (zero, rest) = zero_flag(fill, rest);
+    let (width, rest) = number(rest);
+    let (thousands, rest) = flag(rest, b',');
+    let (dot, rest) = flag(rest, b'.');
+    let (precision, left) = number_after(dot, rest);
+    Parts {
+        fill,
+        align,
+        sign,
+        alternate,
+        zero,
+        width,
+        thousands,
+        dot,
+        precision,
+        left,
+    }
+}
