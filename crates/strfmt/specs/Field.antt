@@ -1,5 +1,5 @@
 -- What a text and an integer print under a specification.
-use Rattle.std.specs.Prelude.{ℕ, ◌+◌, ◌-◌, ◌/◌, ◌<◌, List, [], ◌∷◌, ◌++◌, Bool, true, false, Option, Some, None, Result, Ok, Err, if◌then◌else◌, ◌==◌, ◌||◌, ◌&&◌, not, is_some, is_none, unwrap_or, take, length, replicate, chars, encode_utf8_all, codes, ℤ, unsigned_abs}
+use Rattle.std.specs.Prelude.{ℕ, ◌+◌, ◌-◌, ◌/◌, ◌<◌, List, [], ◌∷◌, ◌++◌, Bool, true, false, Option, Some, None, Result, Ok, Err, if◌then◌else◌, ◌==◌, ◌&&◌, not, is_some, is_none, unwrap_or, take, length, replicate, chars, encode_utf8_all, codes, ℤ, unsigned_abs}
 use Rattle.std.specs.Int.{Width, cast_unsigned, is_negative}
 use Rattle.numerals.specs.Numeral.{numeral}
 use Rattle.strfmt.specs.declared.types.Alignment.{Alignment}
@@ -8,7 +8,7 @@ use Rattle.strfmt.specs.declared.types.Sign.{Sign}
 use Rattle.strfmt.specs.declared.types.Sign.TheVariants.{Unspecified as NoSign, Plus, Minus, Space}
 use Rattle.strfmt.specs.Fault.{Fault, invalid, type_error, Outcome, after, Check, first_failure, unless_refused}
 use Rattle.strfmt.specs.Message.{not_of_integers, precision_of_integer, thousands_of_integer, zero_fill_on_the_left, alternate_without_type, not_of_texts, alternate_of_text, thousands_of_text, sign_of_text, padding_at_equal}
-use Rattle.strfmt.specs.Spec.{Spec, aligned, width_of}
+use Rattle.strfmt.specs.Spec.{Spec, aligned, width_of, is_plus, is_integer_type}
 
 -- the characters that the precision leaves
 abbrev pub cut : Option ℕ → List ℕ → List ℕ
@@ -74,10 +74,6 @@ abbrev pub signed : Width → ℤ → Integer
 signed width z = record { negative = is_negative z; magnitude = unsigned_abs z; bits = cast_unsigned width z }
 
 -- what is refused for an integer, in this order
-abbrev pub is_integer_type : Option ℕ → Bool
-is_integer_type None = true
-is_integer_type (Some c) = c == 98 || (c == 111 || (c == 120 || c == 88))
-
 abbrev pub is_right : Alignment → Bool
 is_right Right = true
 is_right Unspecified = false
@@ -105,10 +101,7 @@ digits_of (Some c) it = numeral (base_of_type c) (c == 88) it.bits
 
 -- a plus sign where one is asked for and the number is not below 0
 abbrev pub plus_of : Sign → Integer → List ℕ
-plus_of Plus it = if it.negative then [] else codes "+"
-plus_of NoSign it = []
-plus_of Minus it = []
-plus_of Space it = []
+plus_of sign it = if is_plus sign && not it.negative then codes "+" else []
 
 -- `0b`, `0o` or `0x`
 abbrev pub prefix_of : Spec → List ℕ

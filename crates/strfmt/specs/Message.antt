@@ -1,6 +1,7 @@
 -- The messages of the refusals. A character is given by its code, a text by its bytes.
-use Rattle.std.specs.Prelude.{ℕ, List, [], ◌∷◌, ◌++◌, codes, Bool, false, if◌then◌else◌, ◌==◌, ◌||◌, nat_lt}
-use Rattle.numerals.specs.Numeral.{numeral}
+use Rattle.std.specs.Prelude.{ℕ, List, [], ◌∷◌, ◌++◌, codes, encode_utf8, Bool, false, if◌then◌else◌, ◌==◌, ◌||◌}
+use Rattle.std.specs.Char.{is_ascii_control}
+use Rattle.std.specs.Fmt.{digits}
 
 -- in the text
 abbrev pub lone_brace : List ℕ
@@ -28,7 +29,7 @@ no_precision = codes "Format specifier missing precision"
 abbrev pub bad_specification : List ℕ
 bad_specification = codes "Invalid format specifier"
 
--- a byte as it stands between single quotes: a quote and a backslash after a backslash, a control character by its escape
+-- a character as it stands between single quotes: a quote and a backslash after a backslash, a control character by its escape
 abbrev pub escaped : ℕ → List ℕ
 escaped c =
     if c == 39 || c == 92 then 92 ∷ c ∷ []
@@ -36,18 +37,18 @@ escaped c =
     else (if c == 9 then 92 ∷ 116 ∷ []
     else (if c == 13 then 92 ∷ 114 ∷ []
     else (if c == 10 then 92 ∷ 110 ∷ []
-    else (if nat_lt c 32 || c == 127 then codes "\\u{" ++ (numeral 16 false c ++ 125 ∷ [])
-    else c ∷ [])))))
+    else (if is_ascii_control c then codes "\\u{" ++ (digits 16 false c ++ 125 ∷ [])
+    else encode_utf8 c)))))
 
 abbrev pub bad_type : ℕ → List ℕ
 bad_type c = codes "Invalid type specifier: '" ++ (escaped c ++ codes "'")
 
 abbrev pub bad_comma : ℕ → List ℕ
-bad_comma c = codes "Invalid comma type: " ++ c ∷ []
+bad_comma c = codes "Invalid comma type: " ++ encode_utf8 c
 
 -- in an integer's field
 abbrev pub not_of_integers : ℕ → List ℕ
-not_of_integers c = codes "Unknown format code '" ++ c ∷ codes "' for type"
+not_of_integers c = codes "Unknown format code '" ++ (encode_utf8 c ++ codes "' for type")
 
 abbrev pub precision_of_integer : List ℕ
 precision_of_integer = codes "precision not allowed for integers"
@@ -63,7 +64,7 @@ alternate_without_type = codes "alternate ('#') cannot be used with type ' '"
 
 -- in a text's field
 abbrev pub not_of_texts : ℕ → List ℕ
-not_of_texts c = codes "Unknown format code Some('" ++ c ∷ codes "') for object of type 'str'"
+not_of_texts c = codes "Unknown format code Some('" ++ (encode_utf8 c ++ codes "') for object of type 'str'")
 
 abbrev pub alternate_of_text : List ℕ
 alternate_of_text = codes "Alternate form (#) not allowed in string format specifier"

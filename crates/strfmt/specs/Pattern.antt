@@ -27,17 +27,21 @@ is_one left = length left == 1
 abbrev pub is_long : List ℕ → Bool
 is_long left = nat_lt 1 (length left)
 
--- what is refused, in this order
+-- what is refused of the type, in this order
+abbrev pub type_checks : Bool → ℕ → Bool → List Check
+type_checks given type thousands =
+    record { fails = given && not (is_type type); fault = type_error (bad_type type) }
+    ∷ record { fails = given && (thousands && is_comma_free type); fault = invalid (bad_comma type) }
+    ∷ []
+
+-- what is refused of a specification, in this order
 abbrev pub checks_of : Parts → List Check
 checks_of parts =
-    let type = first parts.left in
     record { fails = is_too_large parts.width; fault = invalid width_overflow }
     ∷ record { fails = parts.dot && is_none parts.precision; fault = invalid no_precision }
     ∷ record { fails = is_too_large parts.precision; fault = invalid precision_overflow }
     ∷ record { fails = is_long parts.left; fault = invalid bad_specification }
-    ∷ record { fails = is_one parts.left && not (is_type type); fault = type_error (bad_type type) }
-    ∷ record { fails = is_one parts.left && (parts.thousands && is_comma_free type); fault = invalid (bad_comma type) }
-    ∷ []
+    ∷ type_checks (is_one parts.left) (first parts.left) parts.thousands
 
 -- a zero sets the fill and the alignment, else the fill is a space; the byte that is left is the type
 abbrev pub spec_of : Parts → Spec

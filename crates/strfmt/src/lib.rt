@@ -1,7 +1,9 @@
 //! Brace formats, filled from a map or by a closure.
 #![tactic(auto)]
 
+mod formatter;
 mod parts;
 mod types;
 
+pub use formatter::Formatter;
 pub use types::{Alignment, FmtError, Result, Sign};

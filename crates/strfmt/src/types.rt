@@ -1,7 +1,10 @@
 // Alignments, signs and the error of the crate.
 
-ghost use Rattle.std.specs.Prelude.{◌≡◌, ◌↔◌, IsTrue};
+ghost use Rattle.std.specs.Prelude.{◌≡◌, Some, IfOk, string_bytes};
+ghost use Rattle.strfmt.specs.Fault.{IsFaultOrMemory, invalid, key_error, type_error};
+ghost use Rattle.strfmt.specs.Message.{bad_type, bad_comma, no_value};
 
+use std::alloc::{AllocError, Global};
 use std::error::Error;
 use std::fmt;
 
@@ -46,5 +49,77 @@ pub enum FmtError {
     TypeError(String),
     NoMemory,
 }
+
+impl FmtError {
+    ghost use Rattle.strfmt.specs.Fault.{IsFaultOrMemory, invalid, key_error, type_error};
+
+    /// `Invalid` with a copy of the message.
+    pub(crate) fn invalid(alloc: Global, message: &str) -> FmtError
+        ensures { IsFaultOrMemory result (invalid message.now) }
+    {
+        String::from_str(alloc, message).map_or(FmtError::NoMemory, FmtError::Invalid)
+    }
+
+    /// `TypeError` with a copy of the message.
+    pub(crate) fn type_error(alloc: Global, message: &str) -> FmtError
+        ensures { IsFaultOrMemory result (type_error message.now) }
+    {
+        String::from_str(alloc, message).map_or(FmtError::NoMemory, FmtError::TypeError)
+    }
+}
+
+fn bad_type_message(alloc: Global, ty: u8) -> std::result::Result<String, AllocError>
+    ensures { IfOk result (λ message. string_bytes message ≡ bad_type ty) }
+{
+    let character = char::from(ty);
+    match ty {
+        b'\'' | b'\\' => format!(in alloc; "Invalid type specifier: '\\{character}'"),
+        b'\0' => format!(in alloc; "Invalid type specifier: '\\0'"),
+        b'\t' => format!(in alloc; "Invalid type specifier: '\\t'"),
+        b'\r' => format!(in alloc; "Invalid type specifier: '\\r'"),
+        b'\n' => format!(in alloc; "Invalid type specifier: '\\n'"),
+        _ if ty.is_ascii_control() => format!(in alloc; "Invalid type specifier: '\\u{{{ty:x}}}'"),
+        _ => format!(in alloc; "Invalid type specifier: '{character}'"),
+    }
+}
+
+/// The refusal of a byte that is no type.
+pub(crate) fn bad_type(alloc: Global, ty: u8) -> FmtError
+    ensures { IsFaultOrMemory result (type_error (bad_type ty)) }
+{
+    bad_type_message(alloc, ty).map_or(FmtError::NoMemory, FmtError::TypeError)
+}
+
+/// The refusal of a comma beside a type.
+pub(crate) fn bad_comma(alloc: Global, ty: u8) -> FmtError
+    ensures { IsFaultOrMemory result (invalid (bad_comma ty)) }
+{
+    let character = char::from(ty);
+    format!(in alloc; "Invalid comma type: {character}").map_or(FmtError::NoMemory, FmtError::Invalid)
+}
+
+/// The refusal of a key without a value.
+pub(crate) fn no_value(alloc: Global, key: &str) -> FmtError
+    ensures { IsFaultOrMemory result (key_error (no_value key.now)) }
+{
+    format!(in alloc; "Invalid key: {key}").map_or(FmtError::NoMemory, FmtError::KeyError)
+}
+
+impl fmt::Display for FmtError {
+    ghost use Rattle.strfmt.specs.Fault.{error_text};
+
+    ghost output = { λ e. Some (error_text e) };
+
+    fn fmt<W: fmt::Write>(&self, f: &mut fmt::Formatter<W>) -> fmt::Result {
+        match self {
+            FmtError::Invalid(message) => write!(f, "Invalid({message})"),
+            FmtError::KeyError(message) => write!(f, "KeyError({message})"),
+            FmtError::TypeError(message) => write!(f, "TypeError({message})"),
+            FmtError::NoMemory => write!(f, "NoMemory"),
+        }
+    }
+}
+
+impl Error for FmtError {}
 
 pub type Result<T> = std::result::Result<T, FmtError>;
