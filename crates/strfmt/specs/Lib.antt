@@ -5,5 +5,6 @@ pub mod Parts
 pub mod Pattern
 pub mod Field
 pub mod Piece
+pub mod Sides
 pub mod Text
 pub mod Walk

@@ -1,7 +1,7 @@
 -- The messages of the refusals. A character is given by its code, a text by its bytes.
 use Rattle.std.specs.Prelude.{ℕ, List, [], ◌∷◌, ◌++◌, codes, encode_utf8, Bool, false, if◌then◌else◌, ◌==◌, ◌||◌}
 use Rattle.std.specs.Char.{is_ascii_control}
-use Rattle.std.specs.Fmt.{digits}
+use Rattle.numerals.specs.Numeral.{numeral}
 
 -- in the text
 abbrev pub lone_brace : List ℕ
@@ -37,7 +37,7 @@ escaped c =
     else (if c == 9 then 92 ∷ 116 ∷ []
     else (if c == 13 then 92 ∷ 114 ∷ []
     else (if c == 10 then 92 ∷ 110 ∷ []
-    else (if is_ascii_control c then codes "\\u{" ++ (digits 16 false c ++ 125 ∷ [])
+    else (if is_ascii_control c then codes "\\u{" ++ (numeral 16 false c ++ 125 ∷ [])
     else encode_utf8 c)))))
 
 abbrev pub bad_type : ℕ → List ℕ

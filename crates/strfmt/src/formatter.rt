@@ -3,7 +3,7 @@
 ghost use Rattle.std.specs.Prelude.{◌≡◌, ◌++◌, ◌⊎◌, ◌==◌, [], true, None, OnOk, OnErr, IfOk, IfErr};
 ghost use Rattle.std.specs.List.{after_first};
 ghost use Rattle.strfmt.specs.Fault.{IsRefusal, IsFailure, first_failure};
-ghost use Rattle.strfmt.specs.Pattern.{checks_of, is_too_large, key_of, read_pattern, spec_of, type_checks};
+ghost use Rattle.strfmt.specs.Pattern.{checks_of, is_too_large, key_of, read_pattern, read_spec, spec_of, type_checks};
 ghost use Rattle.strfmt.specs.Piece.{spelling, pattern};
 ghost use Rattle.strfmt.specs.Spec.{view_aligned, is_integer_type, is_float_type, is_plus, is_minus};
 
@@ -102,6 +102,18 @@ fn check(alloc: Global, parts: &Parts<'_>) -> Result<()>
     }
 }
 
+/// The parts of a specification, whose numbers fit.
+fn read(alloc: Global, specification: &str) -> Result<Parts<'_>>
+    ensures ok { IfOk result (λ parts. read_spec specification.now ≡ Ok (spec_of parts)) }
+    ensures err { IfErr result (λ e. (e ≡ FmtError.NoMemory) ⊎ IsRefusal (read_spec specification.now) e) }
+{
+    let parts = parts::parse(specification);
+    match check(alloc, &parts) {
+        Ok(()) => Ok(parts),
+        Err(error) => Err(error),
+    }
+}
+
 /// The key of a pattern, and its specification, which may be empty.
 fn split(pattern: &str) -> (&str, &str)
     ensures key { result.0.now ≡ key_of pattern.now }
@@ -146,9 +158,10 @@ impl<'a> Formatter<'a> {
         if key.is_empty() {
             return Err(FmtError::invalid(alloc, "must specify identifier"));
         }
-        let parts = parts::parse(specification);
-        check(alloc, &parts)?;
-        Ok(Formatter::from_parts(alloc, key, s, parts))
+        match read(alloc, specification) {
+            Ok(parts) => Ok(Formatter::from_parts(alloc, key, s, parts)),
+            Err(error) => Err(error),
+        }
     }
 
     /// The character that pads.

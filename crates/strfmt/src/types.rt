@@ -1,9 +1,11 @@
 // Alignments, signs and the error of the crate.
 
-ghost use Rattle.std.specs.Prelude.{◌≡◌, Some, IfOk, string_bytes};
+ghost use Rattle.std.specs.Prelude.{◌≡◌, ◌++◌, false, Some, IfOk, codes, string_bytes};
+ghost use Rattle.numerals.specs.Numeral.{numeral};
 ghost use Rattle.strfmt.specs.Fault.{IsFaultOrMemory, invalid, key_error, type_error};
 ghost use Rattle.strfmt.specs.Message.{bad_type, bad_comma, no_value};
 
+use numerals::{Radix, push_digits};
 use std::alloc::{AllocError, Global};
 use std::error::Error;
 use std::fmt;
@@ -68,6 +70,16 @@ impl FmtError {
     }
 }
 
+/// The message with the number of a control character.
+fn control_message(alloc: Global, ty: u8) -> std::result::Result<String, AllocError>
+    ensures { IfOk result (λ message. string_bytes message ≡ codes "Invalid type specifier: '\\u{" ++ (numeral 16 false ty ++ codes "}'")) }
+{
+    let mut message = String::from_str(alloc, "Invalid type specifier: '\\u{")?;
+    push_digits(&mut message, u128::from(ty), Radix::Sixteen, false).map_err(|_| AllocError)?;
+    message.push_str("}'")?;
+    Ok(message)
+}
+
 fn bad_type_message(alloc: Global, ty: u8) -> std::result::Result<String, AllocError>
     ensures { IfOk result (λ message. string_bytes message ≡ bad_type ty) }
 {
@@ -78,7 +90,7 @@ fn bad_type_message(alloc: Global, ty: u8) -> std::result::Result<String, AllocE
         b'\t' => format!(in alloc; "Invalid type specifier: '\\t'"),
         b'\r' => format!(in alloc; "Invalid type specifier: '\\r'"),
         b'\n' => format!(in alloc; "Invalid type specifier: '\\n'"),
-        _ if ty.is_ascii_control() => format!(in alloc; "Invalid type specifier: '\\u{{{ty:x}}}'"),
+        _ if ty.is_ascii_control() => control_message(alloc, ty),
         _ => format!(in alloc; "Invalid type specifier: '{character}'"),
     }
 }
