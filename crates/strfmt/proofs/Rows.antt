@@ -81,19 +81,19 @@ unfolding chars read_pattern alignment_part sign_part aligned_part number_part p
 broken = refl
 
 unknown_type : under (u 1) (codes "x:k") ≡ Err (type_error (codes "Invalid type specifier: 'k'"))
-unfolding chars read_pattern alignment_part sign_part aligned_part number_part parts_of
+unfolding chars read_pattern alignment_part sign_part aligned_part number_part parts_of encode
 unknown_type = refl
 
 tab_as_type : under (u 1) (codes "x:" ++ 9 ∷ []) ≡ Err (type_error (codes "Invalid type specifier: '\\t'"))
-unfolding chars read_pattern alignment_part sign_part aligned_part number_part parts_of
+unfolding chars read_pattern alignment_part sign_part aligned_part number_part parts_of encode
 tab_as_type = refl
 
 comma_with_type : under (u 1) (codes "x:,x") ≡ Err (invalid (codes "Invalid comma type: x"))
-unfolding chars read_pattern alignment_part sign_part aligned_part number_part parts_of
+unfolding chars read_pattern alignment_part sign_part aligned_part number_part parts_of encode
 comma_with_type = refl
 
 wide : under (u 1) (codes "x:99999999999999999999") ≡ Err (invalid (codes "overflow error when parsing width"))
-unfolding chars read_pattern alignment_part sign_part aligned_part number_part parts_of
+unfolding chars read_pattern alignment_part sign_part aligned_part number_part parts_of encode
 wide = refl
 
 filled_with_a_character : under (λ spec. integer_field spec (signed w8 (negsuc 0))) (codes "x:" ++ 195 ∷ 169 ∷ codes "^#11b") ≡ Ok (codes "0b" ++ (195 ∷ 169 ∷ codes "11111111" ++ (195 ∷ 169 ∷ 195 ∷ 169 ∷ [])))

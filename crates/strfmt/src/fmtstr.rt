@@ -16,9 +16,9 @@ fn front(text: &str, n: usize) -> &str
     let mut rest = text.chars();
     for i in 0..n {
         let _ = i;
-        if rest.next().is_none() {
+        let Some(_) = rest.next() else {
             return text;
-        }
+        };
     }
     let (front, _) = text.split_at(text.len() - rest.as_str().len());
     front

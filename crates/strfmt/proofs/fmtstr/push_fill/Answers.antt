@@ -1,0 +1,22 @@
+use Rattle.std.proofs.Common.{◌≡◌, rules, arith, ap, sym, ◌∙◌, ◌++◌, ◌+◌, ◌*◌, ℕ, List, length, append_assoc, string_bytes}
+use Rattle.std.proofs.lemmas.Grind.{common_steps}
+use Rattle.std.specs.Prelude.{encode_utf8}
+use Rattle.std.proofs.lemmas.Str.{length-encode}
+use Rattle.strfmt.proofs.FillLemmas.{fills-more, room_left}
+use Rattle.strfmt.proofs.fmtstr.push_fill.Goals as goal
+
+pub unwrap-requires : goal.unwrap-requires
+unwrap-requires c =
+    let room = room_left _ _ _ _ _ c.loop-i-test.true c.requires.room in
+    c.push.ensures.succeeds (omega (arith, room, length-encode c.args.fill, c.loop-i.invariant.len, c.loop-i.invariant.capacity))
+
+pub loop-i-preserved : goal.loop-i-preserved
+loop-i-preserved c =
+    let bytes = rw c.unwrap.ensures at c.push.ensures.bytes in
+    let len = rw c.unwrap.ensures at c.push.ensures.len in
+    record {
+      bytes = bytes ∙ ap (λ (bs : List ℕ). bs ++ encode_utf8 c.args.fill) c.loop-i.invariant.bytes ∙ append_assoc _ _ (encode_utf8 c.args.fill)
+      ∙ ap (λ (bs : List ℕ). string_bytes c.args.out.now ++ bs) (sym (fills-more c.loop-i.i c.args.fill));
+      len = omega (arith, len, length-encode c.args.fill, c.loop-i.invariant.len);
+      capacity = omega (arith, c.loop-i.invariant.capacity, c.push.ensures.capacity);
+    }
