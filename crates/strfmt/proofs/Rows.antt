@@ -10,7 +10,7 @@ use Rattle.strfmt.specs.Message.{lone_brace}
 use Rattle.strfmt.specs.Spec.{Spec, View}
 use Rattle.strfmt.specs.Pattern.{read_pattern}
 use Rattle.strfmt.specs.Parts.{alignment_part, sign_part, aligned_part, number_part, parts_of}
-use Rattle.strfmt.specs.Field.{padded, text_field, integer_field, unsigned, signed}
+use Rattle.strfmt.specs.Field.{text_field, integer_field, unsigned, signed}
 use Rattle.strfmt.specs.Piece.{Piece, ordinary, escape, pattern, Break, lone, nested, unclosed}
 use Rattle.strfmt.specs.Text.{Meaning, joined, filled_pattern}
 
@@ -33,39 +33,39 @@ abbrev t : List ℕ → Meaning
 t text spec = text_field spec text
 
 two_patterns : joined (filled_pattern name_and_job) (ordinary 104 ∷ pattern (codes "name") ∷ ordinary 33 ∷ escape 123 ∷ pattern (codes "job:.6") ∷ []) None ≡ Ok (codes "hbob!{python")
-unfolding chars read_pattern alignment_part sign_part aligned_part number_part parts_of padded encode
+unfolding chars read_pattern alignment_part sign_part aligned_part number_part parts_of encode
 two_patterns = refl
 
 signed_prefix : under (u 255) (codes "x:+#x") ≡ Ok (codes "+0xff")
-unfolding chars read_pattern alignment_part sign_part aligned_part number_part parts_of padded numeral encode
+unfolding chars read_pattern alignment_part sign_part aligned_part number_part parts_of numeral encode
 signed_prefix = refl
 
 wide_prefix : under (u 255) (codes "x:#10X") ≡ Ok (codes "0x        FF")
-unfolding chars read_pattern alignment_part sign_part aligned_part number_part parts_of padded numeral encode
+unfolding chars read_pattern alignment_part sign_part aligned_part number_part parts_of numeral encode
 wide_prefix = refl
 
 centered : under (t (codes "ab")) (codes "x:^7") ≡ Ok (codes "  ab   ")
-unfolding chars read_pattern alignment_part sign_part aligned_part number_part parts_of padded encode
+unfolding chars read_pattern alignment_part sign_part aligned_part number_part parts_of encode
 centered = refl
 
 precise : under (t (195 ∷ 169 ∷ 97 ∷ [])) (codes "x:.1") ≡ Ok (195 ∷ 169 ∷ [])
-unfolding chars read_pattern alignment_part sign_part aligned_part number_part parts_of padded encode
+unfolding chars read_pattern alignment_part sign_part aligned_part number_part parts_of encode
 precise = refl
 
 zero_filled : under (u 42) (codes "x:05") ≡ Err (invalid (codes "sign aware zero padding and Align '=' not yet supported"))
-unfolding chars read_pattern alignment_part sign_part aligned_part number_part parts_of padded numeral encode
+unfolding chars read_pattern alignment_part sign_part aligned_part number_part parts_of numeral encode
 zero_filled = refl
 
 zero_after_alignment : under (u 42) (codes "x:<05") ≡ Err (invalid (codes "sign aware zero padding and Align '=' not yet supported"))
-unfolding chars read_pattern alignment_part sign_part aligned_part number_part parts_of padded numeral encode
+unfolding chars read_pattern alignment_part sign_part aligned_part number_part parts_of numeral encode
 zero_after_alignment = refl
 
 zero_without_padding : under (u 42) (codes "x:01") ≡ Ok (codes "42")
-unfolding chars read_pattern alignment_part sign_part aligned_part number_part parts_of padded numeral encode
+unfolding chars read_pattern alignment_part sign_part aligned_part number_part parts_of numeral encode
 zero_without_padding = refl
 
 zero_fill_right : under (u 1) (codes "x:0>") ≡ Err (invalid (codes "sign aware 0 padding not yet supported"))
-unfolding chars read_pattern alignment_part sign_part aligned_part number_part parts_of padded numeral encode
+unfolding chars read_pattern alignment_part sign_part aligned_part number_part parts_of numeral encode
 zero_fill_right = refl
 
 empty_key : under (u 1) [] ≡ Err (invalid (codes "must specify identifier"))
@@ -73,11 +73,11 @@ unfolding read_pattern
 empty_key = refl
 
 key_without_value : filled_pattern (x_is (u 1)) (codes "b") ≡ Err (key_error (codes "Invalid key: b"))
-unfolding chars read_pattern alignment_part sign_part aligned_part number_part parts_of padded encode
+unfolding chars read_pattern alignment_part sign_part aligned_part number_part parts_of encode
 key_without_value = refl
 
 broken : joined (filled_pattern (x_is (u 1))) (pattern (codes "x") ∷ []) (Some lone) ≡ Err (invalid lone_brace)
-unfolding chars read_pattern alignment_part sign_part aligned_part number_part parts_of padded numeral encode
+unfolding chars read_pattern alignment_part sign_part aligned_part number_part parts_of numeral encode
 broken = refl
 
 unknown_type : under (u 1) (codes "x:k") ≡ Err (type_error (codes "Invalid type specifier: 'k'"))
@@ -97,9 +97,9 @@ unfolding chars read_pattern alignment_part sign_part aligned_part number_part p
 wide = refl
 
 filled_with_a_character : under (λ spec. integer_field spec (signed w8 (negsuc 0))) (codes "x:" ++ 195 ∷ 169 ∷ codes "^#11b") ≡ Ok (codes "0b" ++ (195 ∷ 169 ∷ codes "11111111" ++ (195 ∷ 169 ∷ 195 ∷ 169 ∷ [])))
-unfolding chars read_pattern alignment_part sign_part aligned_part number_part parts_of padded numeral encode
+unfolding chars read_pattern alignment_part sign_part aligned_part number_part parts_of numeral encode
 filled_with_a_character = refl
 
 negative : under (λ spec. integer_field spec (signed w32 (negsuc 41))) (codes "x:*<+6") ≡ Ok (codes "-42***")
-unfolding chars read_pattern alignment_part sign_part aligned_part number_part parts_of padded numeral encode
+unfolding chars read_pattern alignment_part sign_part aligned_part number_part parts_of numeral encode
 negative = refl

@@ -23,11 +23,13 @@ filled Right n fill cs = Ok (replicate n fill ++ cs)
 filled Center n fill cs = Ok (replicate (n / 2) fill ++ (cs ++ replicate (n - n / 2) fill))
 filled Equal n fill cs = Err (invalid padding_at_equal)
 
+-- the same where there may be none
+abbrev pub placed : Alignment → ℕ → ℕ → List ℕ → Outcome
+placed align n fill cs = if n == 0 then Ok cs else filled align n fill cs
+
 -- the characters, filled up to the width
-unfoldable pub padded : Spec → List ℕ → Outcome
-padded spec cs =
-    let missing = width_of spec - length cs in
-    if missing == 0 then Ok cs else filled spec.align missing spec.fill cs
+abbrev pub padded : Spec → List ℕ → Outcome
+padded spec cs = placed spec.align (width_of spec - length cs) spec.fill cs
 
 -- the bytes of the characters
 abbrev pub encoded : Outcome → Outcome

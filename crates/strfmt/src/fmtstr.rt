@@ -1,50 +1,77 @@
 // Texts: their field, and the walk over a text with patterns.
 
-ghost use Rattle.std.specs.Prelude.{◌≡◌, ◌++◌, ◌⊎◌, ◌-◌, ◌+◌, ◌*◌, ◌≤◌, OnOk, OnErr, IfOk, IfErr, MatchOption, chars, take, replicate, length, encode_utf8_all, string_bytes, string_len, string_capacity};
+ghost use Rattle.std.specs.Prelude.{◌≡◌, ◌⊎◌, None, OnOk, OnErr, IfErr, chars};
 ghost use Rattle.strfmt.specs.Fault.{IsRefusal, IsFailure, first_failure, after};
-ghost use Rattle.strfmt.specs.Field.{cut, encoded, padded, text_checks, text_field, unchecked_field};
-ghost use Rattle.std.specs.Char.{len_utf8};
-ghost use Rattle.strfmt.specs.Sides.{IsSides};
-ghost use Rattle.strfmt.specs.Spec.{IsAppended, aligned, view_aligned};
+ghost use Rattle.strfmt.specs.Field.{encoded, padded, text_checks, text_field, unchecked_field};
+ghost use Rattle.strfmt.specs.Spec.{IsAppended, view_aligned};
 
+use crate::padding::{count_chars, front, push_field, sides};
+use crate::types;
 use crate::{Alignment, FmtError, Formatter, Result};
 
-/// The first `n` characters of a text, or all.
-fn front(text: &str, n: usize) -> &str
-    ensures { result.now ≡ encode_utf8_all (take n (chars text.now)) }
-{
-    let mut rest = text.chars();
-    for i in 0..n {
-        let _ = i;
-        let Some(_) = rest.next() else {
-            return text;
-        };
+impl Formatter<'_> {
+    /// Appends `front`, and then `text` padded to the width.
+    pub(crate) fn write_padded(&mut self, front: &str, text: &str) -> Result<()>
+        ensures ok { OnOk result (IsAppended (after front.now (encoded (padded self.old.spec (chars text.now)))) self.old self.new) }
+        ensures err { IfErr result (λ e. (e ≡ FmtError.NoMemory) ⊎ IsRefusal (after front.now (encoded (padded self.old.spec (chars text.now)))) e) }
+        ensures same { OnErr result (self.new ≡ self.old) }
+    {
+        let missing = self.width.unwrap_or(0).saturating_sub(count_chars(text));
+        match sides(&self.align, missing) {
+            Some(sides) => push_field(&mut self.text, front, text, self.fill, sides).map_err(|_| FmtError::NoMemory),
+            None => Err(FmtError::invalid(
+                *self.text.allocator(),
+                "sign aware zero padding and Align '=' not yet supported",
+            )),
+        }
     }
-    let (front, _) = text.split_at(text.len() - rest.as_str().len());
-    front
-}
 
-/// Writes a character `n` times, for which there is room.
-fn push_fill(out: &mut String, fill: char, n: usize)
-    requires room { string_len out.old + n * len_utf8 fill ≤ string_capacity out.old }
-    ensures bytes { string_bytes out.new ≡ string_bytes out.old ++ encode_utf8_all (replicate n fill) }
-    ensures len { string_len out.new ≡ string_len out.old + n * len_utf8 fill }
-    ensures capacity { string_capacity out.old ≤ string_capacity out.new }
-{
-    for i in 0..n {
-        let _ = i;
-        out.push(fill).unwrap();
+    /// Appends a text, cut to the precision and padded to the width; an unspecified alignment pads as `Left`.
+    ///
+    /// `Invalid` comes where the alignment is `Equal` and padding is needed. Nothing else of the specification is looked at.
+    pub fn str_unchecked(&mut self, s: &str) -> Result<()>
+        ensures ok { OnOk result (IsAppended (unchecked_field self.old.spec s.now) self.old self.new) }
+        ensures err { IfErr result (λ e. (e ≡ FmtError.NoMemory) ⊎ IsRefusal (unchecked_field self.old.spec s.now) e) }
+        ensures same { OnErr result (self.new ≡ self.old) }
+    {
+        match self.precision {
+            Some(precision) => self.write_padded("", front(s, precision)),
+            None => self.write_padded("", s),
+        }
     }
-}
 
-/// How many fills stand on the left and on the right; there is no place for them at `Equal`.
-fn sides(align: &Alignment, missing: usize) -> Option<(usize, usize)>
-    ensures { IsSides align.now missing result }
-{
-    match align {
-        Alignment::Unspecified | Alignment::Left => Some((0, missing)),
-        Alignment::Right => Some((missing, 0)),
-        Alignment::Center => Some((missing / 2, missing - missing / 2)),
-        Alignment::Equal => None,
+    /// Refuses a specification that isn't one of a text.
+    fn check_text(&self) -> Result<()>
+        ensures ok { OnOk result (first_failure (text_checks self.now.spec) ≡ None) }
+        ensures err { IfErr result (λ e. (e ≡ FmtError.NoMemory) ⊎ IsFailure (first_failure (text_checks self.now.spec)) e) }
+    {
+        let alloc = *self.text.allocator();
+        match self.ty {
+            None | Some('s') => {}
+            Some(ty) => return Err(types::not_of_texts(alloc, ty)),
+        }
+        if self.alternate {
+            return Err(FmtError::type_error(alloc, "Alternate form (#) not allowed in string format specifier"));
+        }
+        if self.thousands {
+            return Err(FmtError::type_error(alloc, "Cannot specify ',' with 's'"));
+        }
+        if !self.sign.is_unspecified() {
+            return Err(FmtError::type_error(alloc, "Sign not allowed in string format specifier"));
+        }
+        Ok(())
+    }
+
+    /// Appends a text as its field, with `Left` as the default alignment.
+    pub fn str(&mut self, s: &str) -> Result<()>
+        ensures ok { OnOk result (IsAppended (text_field self.old.spec s.now) (view_aligned Alignment.Left self.old) self.new) }
+        ensures err { IfErr result (λ e. (e ≡ FmtError.NoMemory) ⊎ IsRefusal (text_field self.old.spec s.now) e) }
+        ensures same { OnErr result (self.new ≡ view_aligned Alignment.Left self.old) }
+    {
+        self.set_default_align(Alignment::Left);
+        match self.check_text() {
+            Ok(()) => self.str_unchecked(s),
+            Err(error) => Err(error),
+        }
     }
 }

@@ -3,6 +3,7 @@
 
 mod fmtstr;
 mod formatter;
+mod padding;
 mod parts;
 mod types;
 

@@ -3,7 +3,7 @@
 ghost use Rattle.std.specs.Prelude.{◌≡◌, ◌++◌, false, Some, IfOk, codes, string_bytes};
 ghost use Rattle.numerals.specs.Numeral.{numeral};
 ghost use Rattle.strfmt.specs.Fault.{IsFaultOrMemory, invalid, key_error, type_error};
-ghost use Rattle.strfmt.specs.Message.{bad_type, bad_comma, no_value};
+ghost use Rattle.strfmt.specs.Message.{bad_type, bad_comma, no_value, not_of_integers, not_of_texts};
 
 use numerals::{Radix, push_digits};
 use std::alloc::{AllocError, Global};
@@ -108,6 +108,20 @@ pub(crate) fn bad_comma(alloc: Global, ty: u8) -> FmtError
 {
     let character = char::from(ty);
     format!(in alloc; "Invalid comma type: {character}").map_or(FmtError::NoMemory, FmtError::Invalid)
+}
+
+/// The refusal of a type that isn't one of a text.
+pub(crate) fn not_of_texts(alloc: Global, ty: char) -> FmtError
+    ensures { IsFaultOrMemory result (type_error (not_of_texts ty)) }
+{
+    format!(in alloc; "Unknown format code Some('{ty}') for object of type 'str'").map_or(FmtError::NoMemory, FmtError::TypeError)
+}
+
+/// The refusal of a type that isn't one of an integer.
+pub(crate) fn not_of_integers(alloc: Global, ty: char) -> FmtError
+    ensures { IsFaultOrMemory result (type_error (not_of_integers ty)) }
+{
+    format!(in alloc; "Unknown format code '{ty}' for type").map_or(FmtError::NoMemory, FmtError::TypeError)
 }
 
 /// The refusal of a key without a value.

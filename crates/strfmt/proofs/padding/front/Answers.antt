@@ -2,7 +2,7 @@ use Rattle.std.proofs.Common.{◌≡◌, rules, arith, ap, sym, ◌∙◌, ◌++
 use Rattle.std.specs.Prelude.{encode_utf8}
 use Rattle.std.specs.Str.Iter.{chars_rest}
 use Rattle.strfmt.proofs.FillLemmas.{Passed, passed_none, passed_more, passed_all, passed_take, passed_boundary}
-use Rattle.strfmt.proofs.fmtstr.front.Goals as goal
+use Rattle.strfmt.proofs.padding.front.Goals as goal
 
 pub loop-i-init : goal.loop-i-init
 loop-i-init c = rw c.chars-rest.ensures.rest (passed_none c.args.text.now c.utf8.text)

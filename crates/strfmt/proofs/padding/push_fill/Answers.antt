@@ -3,7 +3,7 @@ use Rattle.std.proofs.lemmas.Grind.{common_steps}
 use Rattle.std.specs.Prelude.{encode_utf8}
 use Rattle.std.proofs.lemmas.Str.{length-encode}
 use Rattle.strfmt.proofs.FillLemmas.{fills-more, room_left}
-use Rattle.strfmt.proofs.fmtstr.push_fill.Goals as goal
+use Rattle.strfmt.proofs.padding.push_fill.Goals as goal
 
 pub unwrap-requires : goal.unwrap-requires
 unwrap-requires c =

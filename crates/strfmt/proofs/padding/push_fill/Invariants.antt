@@ -1,7 +1,7 @@
 use Rattle.std.proofs.Common.{◌≡◌, ◌++◌, ◌+◌, ◌*◌, ◌≤◌, replicate, string_bytes, string_len}
 use Rattle.std.specs.Prelude.{encode_utf8_all, string_capacity}
 use Rattle.std.specs.Char.{len_utf8}
-use Rattle.strfmt.proofs.fmtstr.push_fill.Given as goal
+use Rattle.strfmt.proofs.padding.push_fill.Given as goal
 
 abbrev pub invariant-loop-i : goal.invariant-loop-i
 invariant-loop-i l = record {
