@@ -1,10 +1,16 @@
 -- Fills and fronts of a text, in characters and in bytes.
-use Rattle.std.proofs.Common.{◌≡◌, ℕ, ◌+◌, ◌-◌, ◌*◌, ◌<◌, ◌≤◌, List, [], ◌∷◌, ◌++◌, refl, length, take, drop, replicate, arith, sym, ◌∙◌, ap, append_assoc, append-nil, length-append, suc, zero, add-one}
+use Rattle.std.proofs.Common.{◌≡◌, ℕ, ◌+◌, ◌-◌, ◌*◌, ◌<◌, ◌≤◌, List, [], ◌∷◌, ◌++◌, refl, length, take, drop, replicate, arith, sym, ◌∙◌, ap, append_assoc, append-nil, length-append, suc, zero, add-one, true, Option, Some, Result, Ok}
 use Rattle.std.specs.Prelude.{IsUtf8, encode_utf8_all, encode_utf8, IsCharBoundary}
 use Rattle.std.specs.Str.{chars}
 use Rattle.std.specs.Char.{len_utf8}
+use Rattle.std.specs.Str.{all_scalars}
+use Rattle.std.proofs.lemmas.Bool.Decides.{nat_tests}
+use Rattle.strfmt.specs.Fault.{Outcome}
+use Rattle.strfmt.specs.Field.{encoded, padded, placed}
+use Rattle.strfmt.specs.Sides.{IsSides, fills}
+use Rattle.strfmt.specs.Spec.{Spec, width_of}
 use Rattle.std.proofs.lemmas.Grind.{common_steps}
-use Rattle.std.proofs.lemmas.Str.{length-encode, encodes-append, chars_past_char, chars-nil, IsUtf8-past_char, encodes-chars, IsCharBoundary-at_seam}
+use Rattle.std.proofs.lemmas.Str.{length-encode, encodes-append, chars_past_char, chars-nil, IsUtf8-past_char, encodes-chars, chars-encodes, scalars-chars, IsCharBoundary-at_seam}
 use Rattle.std.proofs.lemmas.List.{take_all}
 use Rattle.std.proofs.Math.Seq.{take-append_seam}
 use Rattle.std.proofs.Math.Nat.{mul-le-mul_right}
@@ -71,3 +77,23 @@ pub room_left : (i n size len capacity : ℕ) → i < n → len + n * size ≤ c
 room_left i n size len capacity h room =
     let wide : (i + 1) * size ≤ n * size = mul-le-mul_right size (omega (arith, h)) in
     omega (arith, wide, room)
+
+-- the front of a list of characters is one
+scalars-take : (n : ℕ) (cs : List ℕ) → all_scalars cs ≡ true → all_scalars (take n cs) ≡ true
+scalars-take zero cs h = refl
+scalars-take (suc n) [] h = refl
+scalars-take (suc n) (c ∷ cs) h = grind (arith, nat_tests, h, scalars-take n cs)
+
+pub chars_front : (text : List ℕ) (n : ℕ) → IsUtf8 text → chars (encode_utf8_all (take n (chars text))) ≡ take n (chars text)
+chars_front text n u = chars-encodes (take n (chars text)) (scalars-take n (chars text) (scalars-chars text u))
+
+-- a padded text, in bytes
+pub padded_bytes : (spec : Spec) (text : List ℕ) (missing : ℕ) (sides : ℕ × ℕ) → IsUtf8 text → missing ≡ width_of spec - length (chars text) → IsSides spec.align missing (Some sides)
+    → encoded (padded spec (chars text)) ≡ Ok (fills sides.0 spec.fill ++ (text ++ fills sides.1 spec.fill))
+padded_bytes spec text missing sides u e s =
+    let l : List ℕ = replicate sides.0 spec.fill in
+    let r : List ℕ = replicate sides.1 spec.fill in
+    let chars_are : padded spec (chars text) ≡ Ok (l ++ (chars text ++ r)) = ap (λ n. placed spec.align n spec.fill (chars text)) (sym e) ∙ s.1 spec.fill (chars text) in
+    let bytes : encode_utf8_all (l ++ (chars text ++ r)) ≡ encode_utf8_all l ++ (text ++ encode_utf8_all r) =
+    encodes-append l (chars text ++ r) ∙ ap (λ (bs : List ℕ). encode_utf8_all l ++ bs) (encodes-append (chars text) r ∙ ap (λ (bs : List ℕ). bs ++ encode_utf8_all r) (encodes-chars text u)) in
+    ap encoded chars_are ∙ ap (λ (bs : List ℕ). Ok bs) bytes

@@ -106,14 +106,15 @@ abbrev pub plus_of : Sign → Integer → List ℕ
 plus_of sign it = if is_plus sign && not it.negative then codes "+" else []
 
 -- `0b`, `0o` or `0x`
+abbrev pub letter_of : ℕ → ℕ
+letter_of c = if c == 98 then 98 else (if c == 111 then 111 else 120)
+
 abbrev pub prefix_of : Spec → List ℕ
-prefix_of spec =
-    if spec.alternate then 48 ∷ (if unwrap_or spec.ty 0 == 88 then 120 else unwrap_or spec.ty 0) ∷ []
-    else []
+prefix_of spec = if spec.alternate then 48 ∷ letter_of (unwrap_or spec.ty 0) ∷ [] else []
 
 -- an integer's field: neither the plus nor the prefix counts for the width
+abbrev pub unchecked_integer_field : Spec → Integer → Outcome
+unchecked_integer_field spec it = after (plus_of spec.sign it ++ prefix_of spec) (encoded (padded spec (chars (digits_of spec.ty it))))
+
 abbrev pub integer_field : Spec → Integer → Outcome
-integer_field given it =
-    let spec = aligned Right given in
-    unless_refused (first_failure (integer_checks spec))
-    (after (plus_of spec.sign it ++ prefix_of spec) (encoded (padded spec (digits_of spec.ty it))))
+integer_field spec it = unless_refused (first_failure (integer_checks (aligned Right spec))) (unchecked_integer_field (aligned Right spec) it)
