@@ -7,4 +7,5 @@ pub mod Field
 pub mod Piece
 pub mod Sides
 pub mod Text
+pub mod Cutting
 pub mod Walk

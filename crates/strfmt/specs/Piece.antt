@@ -1,5 +1,5 @@
 -- How a text is cut. The braces are ASCII, so no byte of another character is one.
-use Rattle.std.specs.Prelude.{◌≡◌, ◌≢◌, ◌⊎◌, ℕ, List, [], ◌∷◌, ◌++◌, All, Option, slice_index, MatchOption}
+use Rattle.std.specs.Prelude.{◌≡◌, ◌≢◌, ◌⊎◌, ℕ, List, [], ◌∷◌, ◌++◌, ⊤, Option, slice_index, MatchOption}
 
 -- a byte of an ordinary character, a doubled brace, or a pattern without its braces
 pub data Piece : Type 0 where
@@ -14,10 +14,14 @@ IsBrace b = (b ≡ 123) ⊎ (b ≡ 125)
 abbrev pub IsNoBrace : ℕ → Type 0
 IsNoBrace b = (b ≢ 123) × (b ≢ 125)
 
+abbrev pub HasNoBrace : List ℕ → Type 0
+HasNoBrace [] = ⊤
+HasNoBrace (b ∷ bs) = IsNoBrace b × HasNoBrace bs
+
 abbrev pub IsPiece : Piece → Type 0
 IsPiece (ordinary b) = IsNoBrace b
 IsPiece (escape b) = IsBrace b
-IsPiece (pattern inner) = All IsNoBrace inner
+IsPiece (pattern inner) = HasNoBrace inner
 
 -- a piece as it stands in the text
 abbrev pub spelling : Piece → List ℕ
@@ -33,8 +37,8 @@ pub data Break : Type 0 where
 
 abbrev pub BeginsWith : Break → List ℕ → Type 0
 BeginsWith lone text = (rest : List ℕ) × (text ≡ 125 ∷ rest) × (slice_index rest 0 ≢ 125)
-BeginsWith nested text = (inner rest : List ℕ) × All IsNoBrace inner × (inner ≢ []) × (text ≡ 123 ∷ inner ++ 123 ∷ rest)
-BeginsWith unclosed text = (inner : List ℕ) × All IsNoBrace inner × (text ≡ 123 ∷ inner)
+BeginsWith nested text = (inner rest : List ℕ) × HasNoBrace inner × (inner ≢ []) × (text ≡ 123 ∷ inner ++ 123 ∷ rest)
+BeginsWith unclosed text = (inner : List ℕ) × HasNoBrace inner × (text ≡ 123 ∷ inner)
 
 -- the text is these pieces end to end, and then it ends or a brace is wrong
 abbrev pub IsCut : List Piece → Option Break → List ℕ → Type 0

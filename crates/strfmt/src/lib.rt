@@ -1,6 +1,7 @@
 //! Brace formats, filled from a map or by a closure.
 #![tactic(auto)]
 
+mod cutting;
 mod fmtnum;
 mod fmtstr;
 mod formatter;
