@@ -4,4 +4,5 @@ pub mod FillLemmas
 pub mod Numbers
 pub mod PartLemmas
 pub mod PatternLemmas
+pub mod WalkLemmas
 mod Rows

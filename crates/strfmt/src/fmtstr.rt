@@ -1,13 +1,16 @@
 // Texts: their field, and the walk over a text with patterns.
 
-ghost use Rattle.std.specs.Prelude.{◌≡◌, ◌⊎◌, None, OnOk, OnErr, IfErr, chars};
+ghost use Rattle.std.specs.Prelude.{◌≡◌, ◌⊎◌, None, Ok, Err, OnOk, OnErr, IfOk, IfErr, chars, string_bytes};
 ghost use Rattle.strfmt.specs.Fault.{IsRefusal, IsFailure, first_failure, after};
 ghost use Rattle.strfmt.specs.Field.{encoded, padded, text_checks, text_field, unchecked_field};
 ghost use Rattle.strfmt.specs.Spec.{IsAppended, view_aligned};
+ghost use Rattle.strfmt.specs.Walk.{IsWalk};
 
+use crate::cutting::{Next, look, split_plain};
 use crate::padding::{count_chars, front, push_field, sides};
 use crate::types;
 use crate::{Alignment, FmtError, Formatter, Result};
+use std::alloc::Global;
 
 impl Formatter<'_> {
     /// Appends `front`, and then `text` padded to the width.
@@ -72,6 +75,51 @@ impl Formatter<'_> {
         match self.check_text() {
             Ok(()) => self.str_unchecked(s),
             Err(error) => Err(error),
+        }
+    }
+}
+
+/// Fills a text's patterns by calls of a closure, from left to right.
+///
+/// `f` gets each pattern as a formatter without text; where it answers Ok, the text that the formatter then holds
+/// stands in the place of the pattern. The first fault from the left is the answer: of a brace, of a pattern, or of `f`.
+pub fn strfmt_map<F>(alloc: Global, fmtstr: &str, mut f: F) -> Result<String>
+where
+    F: FnMut(&mut Formatter<'_>) -> Result<()>,
+    requires { F.IsAlwaysCallable f }
+    ensures ok { IfOk result (λ text. IsWalk F.FnMut f fmtstr.now (Ok (string_bytes text))) }
+    ensures err { IfErr result (λ e. (e ≡ FmtError.NoMemory) ⊎ IsWalk F.FnMut f fmtstr.now (Err e)) }
+{
+    let mut out = String::new(alloc);
+    let mut rest = fmtstr;
+    'pieces: loop {
+        let (plain, tail) = split_plain(rest);
+        if out.push_str(plain).is_err() {
+            return Err(FmtError::NoMemory);
+        }
+        match look(tail) {
+            Next::End => return Ok(out),
+            Next::Escape(brace, after) => {
+                if out.push(brace).is_err() {
+                    return Err(FmtError::NoMemory);
+                }
+                rest = after;
+            }
+            Next::Pattern(inner, after) => {
+                let mut formatter = match Formatter::from_str(alloc, inner) {
+                    Ok(formatter) => formatter,
+                    Err(error) => return Err(error),
+                };
+                match f(&mut formatter) {
+                    Ok(()) => {}
+                    Err(error) => return Err(error),
+                }
+                if out.push_str(formatter.text()).is_err() {
+                    return Err(FmtError::NoMemory);
+                }
+                rest = after;
+            }
+            Next::Wrong(message) => return Err(FmtError::invalid(alloc, message)),
         }
     }
 }

@@ -9,5 +9,6 @@ mod padding;
 mod parts;
 mod types;
 
+pub use fmtstr::strfmt_map;
 pub use formatter::Formatter;
 pub use types::{Alignment, FmtError, Result, Sign};
