@@ -2,7 +2,7 @@
 use Rattle.std.proofs.Common.{◌≡◌, ◌≢◌, ◌⊎◌, inl, inr, ℕ, ◌+◌, ◌-◌, ◌<◌, ◌≤◌, List, [], ◌∷◌, ◌++◌, refl, length, take, drop, get_or, arith, sym, ◌∙◌, ap, append_assoc, append-nil, length-append, suc, zero, add-one, subst}
 use Rattle.std.proofs.lemmas.List.{length-take-le}
 use Rattle.std.specs.Prelude.{IsUtf8, IsCharBoundary, slice_index}
-use Rattle.std.proofs.lemmas.Str.{IsCharBoundary-end, IsCharBoundary-before_ascii}
+use Rattle.std.proofs.lemmas.Str.{IsCharBoundary-end, IsCharBoundary-before_ascii, IsUtf8-drop, IsUtf8-past_char, encode_ascii}
 use Rattle.std.proofs.Math.Seq.{take-append_seam, drop-append_seam}
 use Rattle.strfmt.specs.Fault.{invalid}
 use Rattle.strfmt.specs.Message.{nested_brace, open_end}
@@ -45,7 +45,7 @@ scanned_front text rest n s b =
 pub scanned_within : (text rest : List ℕ) (n : ℕ) → Scanned text rest n → n ≤ length text
 scanned_within text rest n s = omega (arith, ap length s.whole, length-append s.front rest, s.count)
 
-brace_is_ascii : (b : ℕ) → IsBrace b → b < 128
+pub brace_is_ascii : (b : ℕ) → IsBrace b → b < 128
 brace_is_ascii b (inl e) = omega (arith, e)
 brace_is_ascii b (inr e) = omega (arith, e)
 
@@ -88,3 +88,22 @@ pub plain_boundary_at : (text : List ℕ) (n : ℕ) → IsUtf8 text → n ≤ le
 plain_boundary_at text n u h p =
     let P : ℕ → Type 0 = λ k. IsCharBoundary text k in
     subst P (length-take-le n text h) (plain_boundary text (take n text) (drop n text) u p)
+
+-- what is left after a front without braces is a text, and so is what is left after an ASCII character
+pub utf8_rest : (text front rest : List ℕ) → IsUtf8 text → IsPlainFront text front rest → IsUtf8 rest
+utf8_rest text front rest u p =
+    let e : drop (length front) text ≡ rest = ap (λ (bs : List ℕ). drop (length front) bs) p.whole ∙ drop-append_seam front rest in
+    subst IsUtf8 e (IsUtf8-drop text (length front) u (plain_boundary text front rest u p))
+
+pub utf8_past : (b : ℕ) (bs : List ℕ) → b < 128 → IsUtf8 (b ∷ bs) → IsUtf8 bs
+utf8_past b bs h u = IsUtf8-past_char (b ∷ bs) bs b u (ap (λ (xs : List ℕ). xs ++ bs) (sym (encode_ascii b h)))
+
+pub utf8_escape : (text rest : List ℕ) (b : ℕ) → IsUtf8 text → IsBrace b → text ≡ b ∷ b ∷ rest → IsUtf8 rest
+utf8_escape text rest b u brace e =
+    let small = brace_is_ascii b brace in
+    utf8_past b rest small (utf8_past b (b ∷ rest) small (subst IsUtf8 e u))
+
+pub utf8_pattern : (text inner rest : List ℕ) → IsUtf8 text → HasNoBrace inner → text ≡ 123 ∷ inner ++ 125 ∷ rest → IsUtf8 rest
+utf8_pattern text inner rest u n e =
+    let inside : IsUtf8 (inner ++ 125 ∷ rest) = utf8_past 123 (inner ++ 125 ∷ rest) (omega arith) (subst IsUtf8 e u) in
+    utf8_past 125 rest (omega arith) (utf8_rest (inner ++ 125 ∷ rest) inner (125 ∷ rest) inside (record { whole = refl; plain = n; longest = λ h. inr refl }))

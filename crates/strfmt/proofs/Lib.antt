@@ -1,3 +1,4 @@
+pub mod CutExists
 pub mod CutLemmas
 pub mod FaultLemmas
 pub mod FillLemmas
