@@ -2,6 +2,7 @@ pub mod CutExists
 pub mod CutLemmas
 pub mod FaultLemmas
 pub mod FillLemmas
+pub mod KeyLemmas
 pub mod Numbers
 pub mod PartLemmas
 pub mod PatternLemmas

@@ -6,6 +6,8 @@ pub mod Pattern
 pub mod Field
 pub mod Piece
 pub mod Sides
+pub mod Key
 pub mod Text
+pub mod Values
 pub mod Cutting
 pub mod Walk

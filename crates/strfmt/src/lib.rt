@@ -2,13 +2,17 @@
 #![tactic(auto)]
 
 mod cutting;
+mod display;
 mod fmtnum;
 mod fmtstr;
 mod formatter;
 mod padding;
+mod key;
 mod parts;
 mod types;
 
+pub use display::DisplayStr;
 pub use fmtstr::strfmt_map;
 pub use formatter::Formatter;
+pub use key::FromKey;
 pub use types::{Alignment, FmtError, Result, Sign};
