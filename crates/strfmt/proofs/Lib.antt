@@ -6,5 +6,6 @@ pub mod KeyLemmas
 pub mod Numbers
 pub mod PartLemmas
 pub mod PatternLemmas
+pub mod PrintLemmas
 pub mod WalkLemmas
 mod Rows

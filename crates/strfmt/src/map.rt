@@ -1,0 +1,86 @@
+// A text filled from a map.
+
+ghost use Rattle.std.specs.Prelude.{◌≡◌, ◌⊎◌, Ok, Err, OnOk, IfOk, IfErr, option_copied, string_bytes};
+ghost use Rattle.std.specs.HashMap.{get_by};
+ghost use Rattle.strfmt.specs.Fault.{Fault, IsFault, IsRefusal};
+ghost use Rattle.strfmt.specs.Text.{Prints, filled_by};
+ghost use Rattle.strfmt.specs.Values.{AddsText, values};
+
+use crate::types::no_value;
+use crate::{DisplayStr, FmtError, Formatter, FromKey, Result, strfmt_map};
+use numerals::NoMemory;
+use std::alloc::Global;
+use std::collections::HashMap;
+use std::hash::Hash;
+
+/// The value at the key that a text names.
+fn look_up<'a, K: Hash + Eq + FromKey, D: DisplayStr>(
+    alloc: Global,
+    vars: &'a HashMap<K, D>,
+    key: &str,
+) -> std::result::Result<Option<&'a D>, NoMemory>
+    ensures { IfOk result (λ found. option_copied found ≡ get_by (K.spells key.now) vars.entry.now) }
+{
+    match K::from_key(alloc, key) {
+        Ok(Some(key)) => Ok(vars.get(&key)),
+        Ok(None) => Ok(None),
+        Err(NoMemory) => Err(NoMemory),
+    }
+}
+
+/// Displays the value of the formatter's key.
+fn fill<K: Hash + Eq + FromKey, D: DisplayStr>(alloc: Global, vars: &HashMap<K, D>, f: &mut Formatter<'_>) -> Result<()>
+    ensures ok { OnOk result (AddsText (filled_by (values K.spells D.meaning vars.now f.old.key) f.old) f.old f.new) }
+    ensures err { IfErr result (λ e. (e ≡ FmtError.NoMemory) ⊎ IsRefusal (filled_by (values K.spells D.meaning vars.now f.old.key) f.old) e) }
+{
+    match look_up(alloc, vars, f.key) {
+        Ok(Some(value)) => value.display_str(f),
+        Ok(None) => Err(no_value(alloc, f.key)),
+        Err(NoMemory) => Err(FmtError::NoMemory),
+    }
+}
+
+/// Fills a text's patterns from a map, each key read by `FromKey`, each value displaying itself.
+///
+/// The first fault from the left is the answer. `KeyError` comes where a key doesn't read or isn't in the map;
+/// a value of a caller's own type may answer any fault, which is passed on.
+pub fn strfmt<K: Hash + Eq + FromKey, T: DisplayStr>(alloc: Global, fmtstr: &str, vars: &HashMap<K, T>) -> Result<String>
+    ensures ok { IfOk result (λ text. Prints (values K.spells T.meaning vars.now) fmtstr.now (Ok (string_bytes text))) }
+    ensures err { IfErr result (λ e. (e ≡ FmtError.NoMemory) ⊎ ((fault : Fault) × Prints (values K.spells T.meaning vars.now) fmtstr.now (Err fault) × IsFault e fault)) }
+{
+    strfmt_map(alloc, fmtstr, |f: &mut Formatter<'_>| -> Result<()>
+        ensures ok { OnOk result (AddsText (filled_by (values K.spells T.meaning vars.entry.now f.old.key) f.old) f.old f.new) }
+        ensures err { IfErr result (λ e. (e ≡ FmtError.NoMemory) ⊎ IsRefusal (filled_by (values K.spells T.meaning vars.entry.now f.old.key) f.old) e) }
+    {
+        fill(alloc, vars, f)
+    })
+}
+
+/// A text that fills its patterns from a map.
+pub trait Format {
+    ghost use Rattle.std.specs.Prelude.{ℕ, List};
+
+    /// The text.
+    ghost template: { Self → List ℕ };
+
+    /// `strfmt` of the text.
+    fn format<K: Hash + Eq + FromKey, D: DisplayStr>(&self, alloc: Global, vars: &HashMap<K, D>) -> Result<String>
+        ensures ok { IfOk result (λ text. Prints (values K.spells D.meaning vars.now) (template self.now) (Ok (string_bytes text))) }
+        ensures err { IfErr result (λ e. (e ≡ FmtError.NoMemory) ⊎ ((fault : Fault) × Prints (values K.spells D.meaning vars.now) (template self.now) (Err fault) × IsFault e fault)) };
+}
+
+impl Format for &str {
+    ghost template = { λ text. text.now };
+
+    fn format<K: Hash + Eq + FromKey, D: DisplayStr>(&self, alloc: Global, vars: &HashMap<K, D>) -> Result<String> {
+        strfmt(alloc, self, vars)
+    }
+}
+
+impl Format for String {
+    ghost template = { λ text. string_bytes text };
+
+    fn format<K: Hash + Eq + FromKey, D: DisplayStr>(&self, alloc: Global, vars: &HashMap<K, D>) -> Result<String> {
+        strfmt(alloc, self.as_str(), vars)
+    }
+}
