@@ -30,9 +30,9 @@ abbrev pub filled_pattern : (List ℕ → Option Meaning) → List ℕ → Outco
 filled_pattern meanings inner = filled_view meanings (read_pattern inner)
 
 -- a text and then an outcome; a refusal in the place of the text is the whole outcome
-abbrev pub then : Outcome → Outcome → Outcome
-then (Ok text) outcome = after text outcome
-then (Err fault) outcome = Err fault
+abbrev pub followed_by : Outcome → Outcome → Outcome
+followed_by (Ok text) outcome = after text outcome
+followed_by (Err fault) outcome = Err fault
 
 -- the pieces' texts one after the other, or the first refusal from the left
 abbrev pub joined : (List ℕ → Outcome) → List Piece → Option Break → Outcome
@@ -40,7 +40,7 @@ joined fill [] None = Ok []
 joined fill [] (Some wrong) = Err (break_fault wrong)
 joined fill (ordinary b ∷ pieces) stop = after (b ∷ []) (joined fill pieces stop)
 joined fill (escape b ∷ pieces) stop = after (b ∷ []) (joined fill pieces stop)
-joined fill (pattern inner ∷ pieces) stop = then (fill inner) (joined fill pieces stop)
+joined fill (pattern inner ∷ pieces) stop = followed_by (fill inner) (joined fill pieces stop)
 
 -- the text prints this, or is refused so, under a partial map from the texts of keys to meanings
 abbrev pub Prints : (List ℕ → Option Meaning) → List ℕ → Outcome → Type 0

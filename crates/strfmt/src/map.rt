@@ -1,10 +1,10 @@
 // A text filled from a map.
 
-ghost use Rattle.std.specs.Prelude.{◌≡◌, ◌⊎◌, Ok, Err, OnOk, IfOk, IfErr, option_copied, string_bytes};
+ghost use Rattle.std.specs.Prelude.{◌≡◌, ◌⊎◌, Ok, Err, IfOk, IfErr, option_copied, string_bytes};
 ghost use Rattle.std.specs.HashMap.{get_by};
-ghost use Rattle.strfmt.specs.Fault.{Fault, IsFault, IsRefusal};
+ghost use Rattle.strfmt.specs.Fault.{Fault, IsFault};
 ghost use Rattle.strfmt.specs.Text.{Prints, filled_by};
-ghost use Rattle.strfmt.specs.Values.{AddsText, values};
+ghost use Rattle.strfmt.specs.Values.{Displays, values};
 
 use crate::types::no_value;
 use crate::{DisplayStr, FmtError, Formatter, FromKey, Result, strfmt_map};
@@ -30,8 +30,7 @@ fn look_up<'a, K: Hash + Eq + FromKey, D: DisplayStr>(
 
 /// Displays the value of the formatter's key.
 fn fill<K: Hash + Eq + FromKey, D: DisplayStr>(alloc: Global, vars: &HashMap<K, D>, f: &mut Formatter<'_>) -> Result<()>
-    ensures ok { OnOk result (AddsText (filled_by (values K.spells D.meaning vars.now f.old.key) f.old) f.old f.new) }
-    ensures err { IfErr result (λ e. (e ≡ FmtError.NoMemory) ⊎ IsRefusal (filled_by (values K.spells D.meaning vars.now f.old.key) f.old) e) }
+    ensures { Displays (filled_by (values K.spells D.meaning vars.now f.old.key) f.old) result f.old f.new }
 {
     match look_up(alloc, vars, f.key) {
         Ok(Some(value)) => value.display_str(f),
@@ -49,8 +48,7 @@ pub fn strfmt<K: Hash + Eq + FromKey, T: DisplayStr>(alloc: Global, fmtstr: &str
     ensures err { IfErr result (λ e. (e ≡ FmtError.NoMemory) ⊎ ((fault : Fault) × Prints (values K.spells T.meaning vars.now) fmtstr.now (Err fault) × IsFault e fault)) }
 {
     strfmt_map(alloc, fmtstr, |f: &mut Formatter<'_>| -> Result<()>
-        ensures ok { OnOk result (AddsText (filled_by (values K.spells T.meaning vars.entry.now f.old.key) f.old) f.old f.new) }
-        ensures err { IfErr result (λ e. (e ≡ FmtError.NoMemory) ⊎ IsRefusal (filled_by (values K.spells T.meaning vars.entry.now f.old.key) f.old) e) }
+        ensures { Displays (filled_by (values K.spells T.meaning vars.entry.now f.old.key) f.old) result f.old f.new }
     {
         fill(alloc, vars, f)
     })
