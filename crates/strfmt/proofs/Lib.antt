@@ -8,4 +8,5 @@ pub mod PartLemmas
 pub mod PatternLemmas
 pub mod PrintLemmas
 pub mod WalkLemmas
+pub mod WidthLemmas
 mod Rows

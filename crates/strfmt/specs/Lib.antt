@@ -8,6 +8,7 @@ pub mod Piece
 pub mod Sides
 pub mod Key
 pub mod Text
+pub mod Law
 pub mod Values
 pub mod Cutting
 pub mod Walk
