@@ -1,6 +1,6 @@
 -- What the digits of a number are to those of its quotient.
-use Rattle.std.proofs.Common.{zero, Bool, Option, Some, None, Result, Ok, Err, ◌≢◌, drop, append_assoc, ◌≡◌, ℕ, suc, ◌+◌, ◌*◌, ◌/◌, ◌%◌, ◌^◌, ◌<◌, ◌≤◌, List, [], ◌∷◌, ◌++◌, length, map, refl, sym, ap, ◌∙◌, arith, rules, length-append, get_or, add-one}
-use Rattle.std.proofs.Math.Nat.{pow-suc, pow-zero, mod-eq_of_lt, mul-le-mul_left, div-lt_iff_lt-mul, le-div_iff_mul-le, div-le_self}
+use Rattle.std.proofs.Common.{zero, Bool, Result, Ok, Err, ◌≢◌, append_assoc, ◌≡◌, ℕ, suc, ◌+◌, ◌*◌, ◌/◌, ◌%◌, ◌^◌, ◌<◌, ◌≤◌, List, [], ◌∷◌, ◌++◌, length, map, refl, sym, ap, ◌∙◌, arith, length-append, get_or}
+use Rattle.std.proofs.Math.Nat.{pow-suc, pow-zero, mul-le-mul_left, div-lt_iff_lt-mul, le-div_iff_mul-le}
 use Rattle.std.proofs.lemmas.Grind.{common_steps}
 use Rattle.std.proofs.lemmas.List.{map_push}
 use Rattle.std.specs.Fmt.{digit_glyph}
@@ -11,7 +11,7 @@ use Rattle.std.specs.Int.Digits.{number_from_digits_after}
 use Rattle.std.specs.Str.Parse.{AllDigits, digits_value, ParsesUnsigned, without_leading_plus}
 use Rattle.std.proofs.lemmas.Int.Digits.{digits_value_is}
 use Rattle.std.proofs.lemmas.Str.Parse.{without_leading_plus_none}
-use Rattle.numerals.specs.Numeral.{place_sum, AllBelow, IsNumeral, IsNumeralText, AddsNumeral, HasDigits, IsDigitText, text_value}
+use Rattle.numerals.specs.Numeral.{place_sum, AllBelow, IsNumeral, AddsNumeral, IsDigitText, text_value}
 
 pub place_sum-push : (b d : ℕ) (ds : List ℕ) → place_sum b (ds ++ d ∷ []) ≡ place_sum b ds * b + d
 place_sum-push b d [] = grind (arith, common_steps)

@@ -1,5 +1,5 @@
-use Rattle.std.specs.Prelude.{◌≡◌, ◌≢◌, ℕ, ◌+◌, ◌*◌, ◌^◌, ◌<◌, ◌≤◌, List, [], ◌∷◌, ◌++◌, length, map, All, slice_index, Bool, Option, SomeIff, ⊤}
-use Rattle.std.specs.Fmt.{digit_glyph}
+use Rattle.std.specs.Prelude.{◌≡◌, ℕ, ◌+◌, ◌*◌, ◌^◌, ◌<◌, List, [], ◌∷◌, ◌++◌, length, map, slice_index, Bool, ⊤}
+use Rattle.std.specs.Fmt.{digit_glyph, digits_onto}
 use Rattle.std.specs.Char.{digit_value}
 use Rattle.numerals.specs.declared.Radix.{Radix}
 use Rattle.numerals.specs.declared.Radix.TheVariants.{Two, Eight, Ten, Sixteen}
@@ -31,6 +31,10 @@ pub record IsNumeral (b n : ℕ) (ds : List ℕ) : Type 0 where
 -- the text is the numeral of n in base b
 abbrev pub IsNumeralText : ℕ → ℕ → Bool → List ℕ → Type 0
 IsNumeralText b n upper text = (ds : List ℕ) × IsNumeral b n ds × (text ≡ map (digit_glyph upper) ds)
+
+-- the numeral of n in base b as a function, for a number of at most 128 digits
+unfoldable pub numeral : ℕ → Bool → ℕ → List ℕ
+numeral b upper n = digits_onto 128 b upper n []
 
 -- the new text is the old one with the numeral of n at its end
 abbrev pub AddsNumeral : List ℕ → List ℕ → ℕ → ℕ → Bool → Type 0

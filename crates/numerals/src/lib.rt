@@ -1,17 +1,18 @@
 //! Digits in four radixes.
 #![tactic(auto)]
 
-ghost use Rattle.std.specs.Prelude.{◌≡◌, ◌++◌, ◌<◌, ◌≤◌, ◌+◌, ◌*◌, ◌^◌, List, ℕ, length, string_bytes, string_len, OnErr, OnOk, IfErr, IsOk, SomeIff};
+ghost use Rattle.std.specs.Prelude.{false, ◌≡◌, ◌++◌, ◌<◌, ◌≤◌, ◌+◌, ◌*◌, ◌^◌, List, ℕ, length, string_bytes, string_len, OnErr, OnOk, IfErr, IsOk, SomeIff};
 ghost use Rattle.std.specs.String.{string_capacity};
 ghost use Rattle.std.specs.Fmt.{digit_glyph};
-ghost use Rattle.numerals.specs.Numeral.{base_of, AddsNumeral, HasDigits, IsDigitText, text_value};
+ghost use Rattle.numerals.specs.Numeral.{base_of, AddsNumeral, HasDigits, IsDigitText, text_value, numeral};
+ghost use Rattle.numerals.specs.Laws.{OneNumeral, NumeralIsStd, LongerNumeral, NumeralReadsBack, NumeralOfValue};
 
 /// There was no memory.
 #[derive(Clone, Copy, Debug, PartialEq, Eq)]
 pub struct NoMemory;
 
 /// The base that a number is written in.
-#[derive(Debug, PartialEq, Drop)]
+#[derive(Clone, Copy, Debug, PartialEq, Eq)]
 pub enum Radix {
     Two,
     Eight,
@@ -76,7 +77,7 @@ fn push_in_base(out: &mut String, n: u128, base: u128, upper: bool, room: usize)
 }
 
 pub fn push_digits(out: &mut String, n: u128, radix: Radix, upper: bool) -> Result<(), NoMemory>
-    ensures ok { OnOk result (AddsNumeral (string_bytes out.old) (string_bytes out.new) (base_of radix) n upper) }
+    ensures ok { OnOk result (string_bytes out.new ≡ string_bytes out.old ++ numeral (base_of radix) upper n) }
     ensures err { OnErr result (string_bytes out.new ≡ string_bytes out.old) }
 {
     let base = u128::from(base(&radix));
@@ -89,7 +90,7 @@ pub fn push_digits(out: &mut String, n: u128, radix: Radix, upper: bool) -> Resu
 }
 
 pub fn count_digits(n: u128, radix: Radix) -> usize
-    ensures { HasDigits (base_of radix) n result }
+    ensures { result ≡ length (numeral (base_of radix) false n) }
 {
     count_in_base(n, u128::from(base(&radix)))
 }
@@ -103,3 +104,28 @@ pub fn read_digits(text: &str, radix: Radix) -> Option<u128>
     }
     u128::from_str_radix(text, base(&radix)).ok()
 }
+
+/// A number has exactly one numeral in each base, and `numeral` is it.
+pub fn one_numeral()
+    ensures { OneNumeral }
+{}
+
+/// Below 2^64 it is what the standard library's formatting calls the digits of the number.
+pub fn numeral_is_std()
+    ensures { NumeralIsStd }
+{}
+
+/// A greater number has no shorter numeral.
+pub fn longer_numeral()
+    ensures { LongerNumeral }
+{}
+
+/// A numeral is a text of digits that stands for its number.
+pub fn numeral_reads_back()
+    ensures { NumeralReadsBack }
+{}
+
+/// A text of digits in one case of letters, without a leading zero, is the numeral of what it stands for.
+pub fn numeral_of_value()
+    ensures { NumeralOfValue }
+{}

@@ -1,4 +1,4 @@
-use Rattle.std.proofs.Common.{◌≡◌, ◌<◌, ◌≤◌, ◌+◌, ◌/◌, ◌^◌, ℕ, List, [], ◌∷◌, ◌++◌, refl, arith, length, length-append}
+use Rattle.std.proofs.Common.{◌<◌, ◌/◌, ◌^◌, ℕ, [], ◌∷◌, refl, arith, length-append}
 use Rattle.std.proofs.Math.Nat.{div-le_self}
 use Rattle.numerals.proofs.Digits.{IsNumeral-small, IsNumeral-push, one_fits, more_fits, more_short}
 use Rattle.numerals.proofs.+count_in_base.Goals as goal

@@ -1,4 +1,4 @@
-use Rattle.std.proofs.Common.{◌≡◌, ◌≢◌, arith, get_or}
+use Rattle.std.proofs.Common.{◌≢◌, get_or}
 use Rattle.numerals.proofs.Digits.{reads_text}
 use Rattle.numerals.proofs.read_digits.Goals as goal
 
