@@ -1,6 +1,6 @@
-use Rattle.std.proofs.Common.{◌≡◌, ◌≢◌, arith, get_or}
+use Rattle.std.proofs.Common.{◌≢◌, get_or}
 use Rattle.numerals.proofs.Digits.{reads_text}
-use Rattle.numerals.proofs.read_digits.Goals as goal
+use Rattle.numerals.proofs.read.read_digits.Goals as goal
 
 pub returns : goal.returns
 returns c =
