@@ -8,3 +8,4 @@ pub mod RowLemmas
 pub mod RewriteLemmas
 pub mod RefusalLemmas
 pub mod ReformatLemmas
+pub mod MessageLemmas

@@ -1,7 +1,5 @@
 -- What is told on the error output.
-use Rattle.std.specs.Prelude.{◌≡◌, ℕ, List, [], ◌∷◌, ◌++◌, codes, decimal, Result, Ok, Err, Option}
-use Rattle.std.specs.Io.KnownBytes.{Appends}
-use Rattle.edge_io.specs.Ends.{Rises, AppendsFront}
+use Rattle.std.specs.Prelude.{◌≡◌, ◌<◌, ◌^◌, ℕ, List, [], ◌++◌, codes, decimal, Result, Ok, Err}
 use Rattle.reformat.specs.declared.error.ReformatError.{ReformatError}
 use Rattle.reformat.specs.declared.error.ReformatError.TheVariants.{Header, NotARow, TooLong, ReadFault, WriteFault, NoMemory, NotBuilt}
 
@@ -27,3 +25,17 @@ result_message (Err why) = message_of why
 -- the usage line
 abbrev pub usage : List ℕ
 usage = codes "usage: reformat rewrite | plan | scan FORMAT | translate strfmt|formatx | sample N\n"
+
+-- the line that a refusal names, and 0 where it names none
+abbrev pub line_of : ReformatError → ℕ
+line_of (Header line) = line
+line_of (NotARow line) = line
+line_of (NotBuilt line) = line
+line_of TooLong = 0
+line_of ReadFault = 0
+line_of WriteFault = 0
+line_of NoMemory = 0
+
+-- two different refusals never have the same message
+abbrev pub MessagesDiffer : Type 0
+MessagesDiffer = (a b : ReformatError) → line_of a < 2 ^ 64 → line_of b < 2 ^ 64 → message_of a ≡ message_of b → a ≡ b

@@ -16,3 +16,4 @@ mod tests;
 pub use command::run;
 pub use engine::reformat;
 pub use error::ReformatError;
+pub use message::messages_differ;

@@ -1,7 +1,7 @@
 // What is told on the error output. Nothing here takes memory.
 ghost use Rattle.std.specs.Prelude.{◌≡◌, ◌≤◌, ◌+◌, ◌++◌, length};
 ghost use Rattle.arrayvec.specs.ArrayVec.{array_vec_len};
-ghost use Rattle.reformat.specs.Message.{message_of, line_message};
+ghost use Rattle.reformat.specs.Message.{message_of, line_message, MessagesDiffer};
 ghost use Rattle.reformat.specs.Run.{Tells};
 
 use crate::ReformatError;
@@ -64,3 +64,8 @@ pub(crate) fn tell<E: Sink>(errors: &mut E, text: &[u8])
 {
     let _ = write_all(errors, text);
 }
+
+/// Two different refusals never have the same message, so a message that was told whole fixes its refusal.
+pub fn messages_differ()
+    ensures { MessagesDiffer }
+{}

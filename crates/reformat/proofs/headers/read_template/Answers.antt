@@ -17,6 +17,6 @@ returns-else-count_fields-kinds-clause-err c =
     let utf8 : IsUtf8 c.args.line.now = search rules in
     let spelled : Spells c.args.line.now c.in-Some.template.items = search rules in
     inl (no_template utf8 (λ template is.
-        let same : template ≡ c.in-Some.template.items = spells_one c.args.line.now template c.in-Some.template.items is.spelled spelled in
-        let count : c.count_fields.result ≡ field_count c.in-Some.template.items = search rules in
-        c.if-count_fields-kinds.false (count ∙ ap field_count (sym same) ∙ is.one_a_kind)) refl)
+    let same : template ≡ c.in-Some.template.items = spells_one c.args.line.now template c.in-Some.template.items is.spelled spelled in
+    let count : c.count_fields.result ≡ field_count c.in-Some.template.items = search rules in
+    c.if-count_fields-kinds.false (count ∙ ap field_count (sym same) ∙ is.one_a_kind)) refl)
