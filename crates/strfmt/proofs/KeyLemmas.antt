@@ -25,7 +25,9 @@ both false b h = cc
 -- the tests of digits are the facts
 digits_from : (bs : List ℕ) → list_all (λ c. nat_lt (digit_value c) 10) bs ≡ true → AllDigits 10 bs
 digits_from [] h = tt
-digits_from (b ∷ bs) h = let s = both _ _ h in (grind (arith, nat_tests, s.0), digits_from bs s.1)
+digits_from (b ∷ bs) h =
+    let s = both (nat_lt (digit_value b) 10) (list_all (λ c. nat_lt (digit_value c) 10) bs) h in
+    (lt_from (digit_value b) 10 s.0, digits_from bs s.1)
 
 digits_to : (bs : List ℕ) → AllDigits 10 bs → list_all (λ c. nat_lt (digit_value c) 10) bs ≡ true
 digits_to [] h = refl
@@ -34,7 +36,9 @@ digits_to (b ∷ bs) h =
     rw (small, digits_to bs h.1) refl
 
 decimal_from : (digits : List ℕ) → is_decimal digits ≡ true → IsNumeral 10 digits
-decimal_from digits h = let s = both _ _ h in (lt_from 0 (length digits) s.0, digits_from digits s.1)
+decimal_from digits h =
+    let s = both (nat_lt 0 (length digits)) (list_all (λ c. nat_lt (digit_value c) 10) digits) h in
+    (lt_from 0 (length digits) s.0, digits_from digits s.1)
 
 decimal_to : (digits : List ℕ) → IsNumeral 10 digits → is_decimal digits ≡ true
 decimal_to digits h = rw (lt_true 0 (length digits) h.0, digits_to digits h.1) refl

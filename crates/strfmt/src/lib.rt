@@ -20,3 +20,6 @@ pub use key::FromKey;
 pub use law::field_fills_width;
 pub use map::{Format, strfmt};
 pub use types::{Alignment, FmtError, Result, Sign};
+
+#[cfg(test)]
+mod tests;

@@ -4,4 +4,4 @@ use Rattle.strfmt.proofs.KeyLemmas.{signed_key}
 use Rattle.strfmt.proofs.key.I16FromKey.from_key.Goals as goal
 
 pub returns : goal.returns
-returns c = rw c.ok.ensures.value (signed_key w16 16 _ _ refl c.from_str_radix.ensures.value)
+returns c = rw c.ok.ensures.value (signed_key w16 16 c.args.key.now c.from_str_radix.result refl c.from_str_radix.ensures.value)

@@ -3,4 +3,4 @@ use Rattle.strfmt.proofs.KeyLemmas.{unsigned_key}
 use Rattle.strfmt.proofs.key.U32FromKey.from_key.Goals as goal
 
 pub returns : goal.returns
-returns c = rw c.ok.ensures.value (unsigned_key 32 _ _ c.from_str_radix.ensures.value)
+returns c = rw c.ok.ensures.value (unsigned_key 32 c.args.key.now c.from_str_radix.result c.from_str_radix.ensures.value)
