@@ -33,9 +33,10 @@ scanned_more text rest tail n b s e no_open no_close = record {
 }
 
 front_is : (text rest : List ℕ) (n : ℕ) (s : Scanned text rest n) → (take n text ≡ s.front) × (drop n text ≡ rest)
-front_is text rest n s =
-    (ap (λ (bs : List ℕ). take n bs) s.whole ∙ ap (λ k. take k (s.front ++ rest)) (sym s.count) ∙ take-append_seam s.front rest,
-     ap (λ (bs : List ℕ). drop n bs) s.whole ∙ ap (λ k. drop k (s.front ++ rest)) (sym s.count) ∙ drop-append_seam s.front rest)
+front_is text rest n s = (
+  ap (λ (bs : List ℕ). take n bs) s.whole ∙ ap (λ k. take k (s.front ++ rest)) (sym s.count) ∙ take-append_seam s.front rest,
+  ap (λ (bs : List ℕ). drop n bs) s.whole ∙ ap (λ k. drop k (s.front ++ rest)) (sym s.count) ∙ drop-append_seam s.front rest,
+)
 
 pub scanned_front : (text rest : List ℕ) (n : ℕ) → Scanned text rest n → BeginsWithBrace rest → IsPlainFront text (take n text) (drop n text)
 scanned_front text rest n s b =

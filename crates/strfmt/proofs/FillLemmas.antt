@@ -43,7 +43,7 @@ passed_more text rest rest' i c p e =
       front = p.front ++ c ∷ [];
       count = omega (arith, p.count, length-append p.front (c ∷ []));
       seam = p.seam ∙ ap (λ (bs : List ℕ). encode_utf8_all p.front ++ bs) e ∙ sym (append_assoc (encode_utf8_all p.front) (encode_utf8 c) rest')
-      ∙ ap (λ (bs : List ℕ). bs ++ rest') (sym whole);
+          ∙ ap (λ (bs : List ℕ). bs ++ rest') (sym whole);
       chars_are = p.chars_are ∙ ap (λ (cs : List ℕ). p.front ++ cs) (chars_past_char rest rest' c p.utf8 e) ∙ sym (append_assoc p.front (c ∷ []) (chars rest'));
       utf8 = IsUtf8-past_char rest rest' c p.utf8 e;
     }

@@ -60,8 +60,8 @@ unsigned_key bits text (Ok n) h = λ other.
     (λ t. lt_true other (2 ^ bits) (let P : ℕ → Type 0 = λ m. m < 2 ^ bits in subst P (eqb-true _ _ t) h.0.1))
 unsigned_key bits text (Err e) h = λ other.
     missing _ _ _ (λ d t f.
-      let P : ℕ → Type 0 = λ m. m < 2 ^ bits in
-      h (decimal_from _ d, subst P (sym (eqb-true _ _ t)) (lt_from other (2 ^ bits) f)))
+    let P : ℕ → Type 0 = λ m. m < 2 ^ bits in
+    h (decimal_from _ d, subst P (sym (eqb-true _ _ t)) (lt_from other (2 ^ bits) f)))
 
 -- the tests of a range are the facts
 within_from : (w : Width) (k : ℕ) (z : ℤ) → hbits w ≡ k - 1 → is_within k z ≡ true → FitsSigned w z
@@ -78,5 +78,5 @@ signed_key w k text (Ok z) e h = λ other.
     (λ t. within_to w k other e (let P : ℤ → Type 0 = λ m. FitsSigned w m in subst P ((Decides-int_eq _ _).0 t) h.0.1))
 signed_key w k text (Err error) e h = λ other.
     missing _ _ _ (λ d t f.
-      let P : ℤ → Type 0 = λ m. FitsSigned w m in
-      h (decimal_from _ d, subst P (sym ((Decides-int_eq _ _).0 t)) (within_from w k other e f)))
+    let P : ℤ → Type 0 = λ m. FitsSigned w m in
+    h (decimal_from _ d, subst P (sym ((Decides-int_eq _ _).0 t)) (within_from w k other e f)))

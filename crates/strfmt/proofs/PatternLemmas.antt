@@ -83,17 +83,17 @@ module _ (pattern : List ℕ) where
   no_key_error error h f = rw h f
 
   pub read_pattern-ok : (spec : Spec) → (length (key_of pattern) == 0) ≡ false → read_spec specification ≡ Ok spec
-    → read_pattern pattern ≡ Ok (record { key = key_of pattern; pattern = pattern; spec = spec; text = [] })
+      → read_pattern pattern ≡ Ok (record { key = key_of pattern; pattern = pattern; spec = spec; text = [] })
   unfolding read_pattern
   read_pattern-ok spec some h = rw (some, h) refl
 
   refused : (read : Result Spec Fault) (error : FmtError) → (length (key_of pattern) == 0) ≡ false → read_spec specification ≡ read → (error ≡ NoMemory) ⊎ IsRefusal read error
-    → (error ≡ NoMemory) ⊎ IsRefusal (read_pattern pattern) error
+      → (error ≡ NoMemory) ⊎ IsRefusal (read_pattern pattern) error
   unfolding read_pattern
   refused (Ok spec) error some h (inl memory) = inl memory
   refused (Ok spec) error some h (inr f) = absurd f
   refused (Err fault) error some h f = rw (some, h) f
 
   pub read_pattern-err : (error : FmtError) → (length (key_of pattern) == 0) ≡ false → (error ≡ NoMemory) ⊎ IsRefusal (read_spec specification) error
-    → (error ≡ NoMemory) ⊎ IsRefusal (read_pattern pattern) error
+      → (error ≡ NoMemory) ⊎ IsRefusal (read_pattern pattern) error
   read_pattern-err error some f = refused (read_spec specification) error some refl f

@@ -56,7 +56,7 @@ read_blank inner view h = blank_if (length (key_of inner) == 0) (invalid no_key)
 module _ {F : Type 0} (g : Mut F (MutBor View × Unit {0}) (Answer × (MutBor View × Unit {0}))) (f : F) (meanings : List ℕ → Option Meaning)
     (each : (view left : View) (answer : Answer) (f' : F) → CallsAt g f view answer left f' → (f' ≡ f) × Displays (filled_by (meanings view.key) view) answer view left) where
   call_prints : (view left : View) (given : Answer) (f' : F) (rest : F → Walked → Type 0) (tail : Outcome) (answer : Walked) → view.text ≡ [] → ((more : Walked) → rest f more → Gives tail more)
-    → (f' ≡ f) × Displays (filled_by (meanings view.key) view) given view left → GoesOn g given left (rest f') answer → Gives (followed_by (filled_by (meanings view.key) view) tail) answer
+      → (f' ≡ f) × Displays (filled_by (meanings view.key) view) given view left → GoesOn g given left (rest f') answer → Gives (followed_by (filled_by (meanings view.key) view) tail) answer
   call_prints view left (Err error) f' rest tail answer blank later h goes =
       subst (Gives (followed_by (filled_by (meanings view.key) view) tail)) (sym goes) (error_gives (filled_by (meanings view.key) view) tail error h.1)
   call_prints view left (Ok done) f' rest tail answer blank later h goes =
@@ -65,7 +65,7 @@ module _ {F : Type 0} (g : Mut F (MutBor View × Unit {0}) (Answer × (MutBor Vi
       (text_gives (filled_by (meanings view.key) view) tail view left goes.0 blank h.1 (later goes.0 (subst P h.0 goes.1)))
 
   fills_print : (read : Result View Fault) (rest : F → Walked → Type 0) (tail : Outcome) (answer : Walked) → ((view : View) → read ≡ Ok view → view.text ≡ [])
-    → ((more : Walked) → rest f more → Gives tail more) → Fills g read f rest answer → Gives (followed_by (filled_view meanings read) tail) answer
+      → ((more : Walked) → rest f more → Gives tail more) → Fills g read f rest answer → Gives (followed_by (filled_view meanings read) tail) answer
   fills_print (Err fault) rest tail answer blank later h = refused_gives fault answer h
   fills_print (Ok view) rest tail answer blank later h =
       call_prints view h.1 h.0 h.2 rest tail answer (blank view refl) later (each view h.1 h.0 h.2 h.3) h.4
@@ -88,7 +88,7 @@ module _ {F : Type 0} (g : Mut F (MutBor View × Unit {0}) (Answer × (MutBor Vi
   fault_of (Err fault) error h = (fault, refl, h)
 
   printed : (text : List ℕ) (error : FmtError) (pieces : List Piece) (stop : Option Break) → IsCut pieces stop text → (error ≡ NoMemory) ⊎ IsRefusal (joined (filled_pattern meanings) pieces stop) error
-    → (error ≡ NoMemory) ⊎ ((fault : Fault) × Prints meanings text (Err fault) × IsFault error fault)
+      → (error ≡ NoMemory) ⊎ ((fault : Fault) × Prints meanings text (Err fault) × IsFault error fault)
   printed text error pieces stop cut (inl memory) = inl memory
   printed text error pieces stop cut (inr h) = let it = fault_of (joined (filled_pattern meanings) pieces stop) error h in inr (it.0, (pieces, stop, cut, it.1), it.2)
 
@@ -98,7 +98,7 @@ module _ {F : Type 0} (g : Mut F (MutBor View × Unit {0}) (Answer × (MutBor Vi
 
 -- what a call shows and leaves is the same through its references
 pub filled_at : (meanings : List ℕ → Option Meaning) (view shown left leaves : View) (answer : Answer) → shown ≡ view → leaves ≡ left
-  → Displays (filled_by (meanings shown.key) shown) answer shown leaves → Displays (filled_by (meanings view.key) view) answer view left
+    → Displays (filled_by (meanings shown.key) shown) answer shown leaves → Displays (filled_by (meanings view.key) view) answer view left
 filled_at meanings view shown left leaves answer s l h =
     let P : View → Type 0 = λ v. Displays (filled_by (meanings v.key) v) answer v left in
     let Q : View → Type 0 = λ v. Displays (filled_by (meanings shown.key) shown) answer shown v in

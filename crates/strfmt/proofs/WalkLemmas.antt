@@ -45,7 +45,7 @@ module _ {F : Type 0} (g : Mut F (MutBor View × Unit {0}) (Answer × (MutBor Vi
 
     -- whatever stands after a pattern, its walk is what its filling says
     walk_pattern : (answer : Walked) → ((pieces : List Piece) (stop : Option Break) → Fills g (read_pattern inner) f (λ next. Walks g next pieces stop) answer)
-      → IsWalk g f (123 ∷ inner ++ 125 ∷ text) answer
+        → IsWalk g f (123 ∷ inner ++ 125 ∷ text) answer
     walk_pattern answer fills =
         let c = cut_of text in
         (pattern inner ∷ c.pieces, c.stop, (plain, (text, pattern_text, c.is)), fills c.pieces c.stop)
@@ -62,12 +62,12 @@ module _ {F : Type 0} (g : Mut F (MutBor View × Unit {0}) (Answer × (MutBor Vi
     pub walk_refused : (view left : View) (f' : F) (error : FmtError) → read_pattern inner ≡ Ok view → CallsAt g f view (Err error) left f' → IsWalk g f (123 ∷ inner ++ 125 ∷ text) (Err error)
     walk_refused view left f' error h c =
         walk_pattern (Err error) (λ pieces stop.
-          let P : Result View Fault → Type 0 = λ r. Fills g r f (λ next. Walks g next pieces stop) (Err error) in
-          subst P (sym h) (Err error, left, f', c, refl))
+        let P : Result View Fault → Type 0 = λ r. Fills g r f (λ next. Walks g next pieces stop) (Err error) in
+        subst P (sym h) (Err error, left, f', c, refl))
 
     -- a pattern that the closure fills
     pub walk_filled : (view left : View) (f' : F) (answer : Walked) → read_pattern inner ≡ Ok view → CallsAt g f view (Ok tt) left f' → IsWalk g f' text answer
-      → IsWalk g f (123 ∷ inner ++ 125 ∷ text) (walked_after left.text answer)
+        → IsWalk g f (123 ∷ inner ++ 125 ∷ text) (walked_after left.text answer)
     walk_filled view left f' answer h c w =
         let P : Result View Fault → Type 0 = λ r. Fills g r f (λ next. Walks g next w.0 w.1) (walked_after left.text answer) in
         (pattern inner ∷ w.0, w.1, (plain, (text, pattern_text, w.2)), subst P (sym h) (Ok tt, left, f', c, (answer, w.3, refl)))
@@ -92,7 +92,7 @@ module _ {F : Type 0} (g : Mut F (MutBor View × Unit {0}) (Answer × (MutBor Vi
         put out (b ∷ []) out' answer o (onward (walked_after (b ∷ []) answer) (over f text (b ∷ b ∷ rest) (walked_after (b ∷ []) answer) e (walk_escape f rest b answer brace w)))
 
     pub onward_filled : (f f' : F) (text inner rest out out' : List ℕ) (view left : View) → Onward f text out → HasNoBrace inner → text ≡ 123 ∷ inner ++ 125 ∷ rest
-      → read_pattern inner ≡ Ok view → CallsAt g f view (Ok tt) left f' → out' ≡ out ++ left.text → Onward f' rest out'
+        → read_pattern inner ≡ Ok view → CallsAt g f view (Ok tt) left f' → out' ≡ out ++ left.text → Onward f' rest out'
     onward_filled f f' text inner rest out out' view left onward n e r c o answer w =
         put out left.text out' answer o (onward (walked_after left.text answer)
         (over f text (123 ∷ inner ++ 125 ∷ rest) (walked_after left.text answer) e (walk_filled f inner rest n view left f' answer r c w)))
@@ -104,11 +104,11 @@ module _ {F : Type 0} (g : Mut F (MutBor View × Unit {0}) (Answer × (MutBor Vi
     onward_wrong f text out wrong error onward b e = onward (Err error) (walk_wrong f text wrong error b e)
 
     pub onward_fault : (f : F) (text inner rest out : List ℕ) (error : FmtError) → Onward f text out → HasNoBrace inner → text ≡ 123 ∷ inner ++ 125 ∷ rest → IsRefusal (read_pattern inner) error
-      → Whole (Err error)
+        → Whole (Err error)
     onward_fault f text inner rest out error onward n e r =
         onward (Err error) (over f text (123 ∷ inner ++ 125 ∷ rest) (Err error) e (walk_fault f inner rest n error r))
 
     pub onward_refused : (f f' : F) (text inner rest out : List ℕ) (view left : View) (error : FmtError) → Onward f text out → HasNoBrace inner → text ≡ 123 ∷ inner ++ 125 ∷ rest
-      → read_pattern inner ≡ Ok view → CallsAt g f view (Err error) left f' → Whole (Err error)
+        → read_pattern inner ≡ Ok view → CallsAt g f view (Err error) left f' → Whole (Err error)
     onward_refused f f' text inner rest out view left error onward n e r c =
         onward (Err error) (over f text (123 ∷ inner ++ 125 ∷ rest) (Err error) e (walk_refused f inner rest n view left f' error r c))

@@ -24,8 +24,14 @@ filled_len Right n fill cs out h =
     omega (arith, ap length e, length-append (replicate n fill) cs, length-replicate n fill)
 filled_len Center n fill cs out h =
     let e : replicate (n / 2) fill ++ (cs ++ replicate (n - n / 2) fill) ≡ out = cc in
-    omega (arith, ap length e, length-append (replicate (n / 2) fill) (cs ++ replicate (n - n / 2) fill), length-append cs (replicate (n - n / 2) fill),
-    length-replicate (n / 2) fill, length-replicate (n - n / 2) fill)
+    omega (
+      arith,
+      ap length e,
+      length-append (replicate (n / 2) fill) (cs ++ replicate (n - n / 2) fill),
+      length-append cs (replicate (n - n / 2) fill),
+      length-replicate (n / 2) fill,
+      length-replicate (n - n / 2) fill,
+    )
 filled_len Equal n fill cs out h = cc
 
 placed_at : (align : Alignment) (n fill : ℕ) (cs out : List ℕ) → (((n == 0) ≡ true) × (n ≡ 0)) ⊎ (((n == 0) ≡ false) × (n ≢ 0)) → placed align n fill cs ≡ Ok out → n + length cs ≤ length out
@@ -52,10 +58,11 @@ after_width : (spec : Spec) (front : List ℕ) (outcome : Outcome) (field : List
     → after front outcome ≡ Ok field → HasWidth spec field
 after_width spec front (Ok text) field ascii wide h =
     let e : front ++ text ≡ field = cc in
-    let w = wide text refl in
-    (front ++ w.0,
-     sym e ∙ ap (λ (bs : List ℕ). front ++ bs) w.1 ∙ ap (λ (bs : List ℕ). bs ++ encode_utf8_all w.0) (sym ascii) ∙ sym (encodes-append front w.0),
-     omega (arith, w.2, length-append front w.0))
+    let w = wide text refl in (
+      front ++ w.0,
+      sym e ∙ ap (λ (bs : List ℕ). front ++ bs) w.1 ∙ ap (λ (bs : List ℕ). bs ++ encode_utf8_all w.0) (sym ascii) ∙ sym (encodes-append front w.0),
+      omega (arith, w.2, length-append front w.0),
+    )
 after_width spec front (Err fault) field ascii wide h = cc
 
 unless_width : (spec : Spec) (failure : Option Fault) (outcome : Outcome) (field : List ℕ) → ((text : List ℕ) → outcome ≡ Ok text → HasWidth spec text) → unless_refused failure outcome ≡ Ok field → HasWidth spec field
@@ -88,4 +95,4 @@ integer_width spec it field h =
     let digits : List ℕ = chars (digits_of given.ty it) in
     unless_width spec (first_failure (integer_checks given)) (unchecked_integer_field given it) field
     (λ out e. after_width spec front (encoded (padded given digits)) out (front_ascii (is_plus spec.sign && not it.negative) spec.alternate (letter_of (unwrap_or spec.ty 0)) (letter_small (unwrap_or spec.ty 0)))
-      (λ text k. encoded_width spec (padded given digits) text (λ cs j. padded_len given digits cs j) k) e) h
+    (λ text k. encoded_width spec (padded given digits) text (λ cs j. padded_len given digits cs j) k) e) h

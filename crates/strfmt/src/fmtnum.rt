@@ -7,12 +7,16 @@ ghost use Rattle.strfmt.specs.Fault.{IsRefusal, IsFailure, first_failure};
 ghost use Rattle.strfmt.specs.Field.{digits_of, integer_checks, integer_field, letter_of, signed, unchecked_integer_field, unsigned};
 ghost use Rattle.strfmt.specs.Spec.{IsAppended, view_aligned};
 
-use crate::types;
-use crate::{Alignment, FmtError, Formatter, Result};
-use std::alloc::Global;
+use crate::{Alignment, FmtError, Formatter, Result, types};
 use numerals::{NoMemory, Radix, push_digits};
+use std::alloc::Global;
 
-fn in_radix(alloc: Global, n: u128, radix: Radix, upper: bool) -> std::result::Result<String, NoMemory>
+fn in_radix(
+    alloc: Global,
+    n: u128,
+    radix: Radix,
+    upper: bool,
+) -> std::result::Result<String, NoMemory>
     ensures { IfOk result (λ text. string_bytes text ≡ numeral (base_of radix) upper n) }
 {
     let mut text = String::new(alloc);
@@ -30,7 +34,13 @@ fn decimal(alloc: Global, negative: bool, magnitude: u128) -> std::result::Resul
 }
 
 /// The digits of an integer: in decimal with a minus, or its two's complement in the base of the type.
-fn digits(alloc: Global, ty: Option<char>, negative: bool, magnitude: u128, bits: u128) -> std::result::Result<String, NoMemory>
+fn digits(
+    alloc: Global,
+    ty: Option<char>,
+    negative: bool,
+    magnitude: u128,
+    bits: u128,
+) -> std::result::Result<String, NoMemory>
     ensures { IfOk result (λ text. string_bytes text ≡ digits_of ty (record { negative = negative; magnitude = magnitude; bits = bits })) }
 {
     match ty {
@@ -167,7 +177,11 @@ impl Formatter<'_> {
         ensures err { IfErr result (λ e. (e ≡ FmtError.NoMemory) ⊎ IsRefusal (integer_field self.old.spec (signed w8 x)) e) }
         ensures same { OnErr result (self.new ≡ view_aligned Alignment.Right self.old) }
     {
-        self.integer(x < 0, u128::from(x.unsigned_abs()), u128::from(x.cast_unsigned()))
+        self.integer(
+            x < 0,
+            u128::from(x.unsigned_abs()),
+            u128::from(x.cast_unsigned()),
+        )
     }
 
     pub fn i16(&mut self, x: i16) -> Result<()>
@@ -175,7 +189,11 @@ impl Formatter<'_> {
         ensures err { IfErr result (λ e. (e ≡ FmtError.NoMemory) ⊎ IsRefusal (integer_field self.old.spec (signed w16 x)) e) }
         ensures same { OnErr result (self.new ≡ view_aligned Alignment.Right self.old) }
     {
-        self.integer(x < 0, u128::from(x.unsigned_abs()), u128::from(x.cast_unsigned()))
+        self.integer(
+            x < 0,
+            u128::from(x.unsigned_abs()),
+            u128::from(x.cast_unsigned()),
+        )
     }
 
     pub fn i32(&mut self, x: i32) -> Result<()>
@@ -183,7 +201,11 @@ impl Formatter<'_> {
         ensures err { IfErr result (λ e. (e ≡ FmtError.NoMemory) ⊎ IsRefusal (integer_field self.old.spec (signed w32 x)) e) }
         ensures same { OnErr result (self.new ≡ view_aligned Alignment.Right self.old) }
     {
-        self.integer(x < 0, u128::from(x.unsigned_abs()), u128::from(x.cast_unsigned()))
+        self.integer(
+            x < 0,
+            u128::from(x.unsigned_abs()),
+            u128::from(x.cast_unsigned()),
+        )
     }
 
     pub fn i64(&mut self, x: i64) -> Result<()>
@@ -191,7 +213,11 @@ impl Formatter<'_> {
         ensures err { IfErr result (λ e. (e ≡ FmtError.NoMemory) ⊎ IsRefusal (integer_field self.old.spec (signed w64 x)) e) }
         ensures same { OnErr result (self.new ≡ view_aligned Alignment.Right self.old) }
     {
-        self.integer(x < 0, u128::from(x.unsigned_abs()), u128::from(x.cast_unsigned()))
+        self.integer(
+            x < 0,
+            u128::from(x.unsigned_abs()),
+            u128::from(x.cast_unsigned()),
+        )
     }
 
     pub fn i128(&mut self, x: i128) -> Result<()>

@@ -8,8 +8,7 @@ ghost use Rattle.strfmt.specs.Walk.{IsWalk};
 
 use crate::cutting::{Next, look, split_plain};
 use crate::padding::{count_chars, front, push_field, sides};
-use crate::types;
-use crate::{Alignment, FmtError, Formatter, Result};
+use crate::{Alignment, FmtError, Formatter, Result, types};
 use std::alloc::Global;
 
 impl Formatter<'_> {
@@ -21,7 +20,9 @@ impl Formatter<'_> {
     {
         let missing = self.width.unwrap_or(0).saturating_sub(count_chars(text));
         match sides(&self.align, missing) {
-            Some(sides) => push_field(&mut self.text, front, text, self.fill, sides).map_err(|_| FmtError::NoMemory),
+            Some(sides) => push_field(&mut self.text, front, text, self.fill, sides).map_err(
+                |_| FmtError::NoMemory,
+            ),
             None => Err(FmtError::invalid(
                 *self.text.allocator(),
                 "sign aware zero padding and Align '=' not yet supported",
@@ -54,7 +55,10 @@ impl Formatter<'_> {
             Some(ty) => return Err(types::not_of_texts(alloc, ty)),
         }
         if self.alternate {
-            return Err(FmtError::type_error(alloc, "Alternate form (#) not allowed in string format specifier"));
+            return Err(FmtError::type_error(
+                alloc,
+                "Alternate form (#) not allowed in string format specifier",
+            ));
         }
         if self.thousands {
             return Err(FmtError::type_error(alloc, "Cannot specify ',' with 's'"));

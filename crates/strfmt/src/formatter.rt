@@ -8,8 +8,7 @@ ghost use Rattle.strfmt.specs.Piece.{spelling, pattern};
 ghost use Rattle.strfmt.specs.Spec.{view_aligned, is_integer_type, is_float_type, is_plus, is_minus};
 
 use crate::parts::{self, Parts};
-use crate::types;
-use crate::{Alignment, FmtError, Result, Sign};
+use crate::{Alignment, FmtError, Result, Sign, types};
 use std::alloc::Global;
 use std::marker::Model;
 
@@ -42,19 +41,19 @@ impl<'a> Model for Formatter<'a> {
     ghost Value = { View };
 
     ghost view = { λ it. record {
-        key = it.key.now;
-        pattern = it.pattern.now;
-        spec = record {
-            fill = it.fill;
-            align = it.align;
-            sign = it.sign;
-            alternate = it.alternate;
-            width = it.width;
-            thousands = it.thousands;
-            precision = it.precision;
-            ty = it.ty;
-        };
-        text = string_bytes it.text;
+      key = it.key.now;
+      pattern = it.pattern.now;
+      spec = record {
+        fill = it.fill;
+        align = it.align;
+        sign = it.sign;
+        alternate = it.alternate;
+        width = it.width;
+        thousands = it.thousands;
+        precision = it.precision;
+        ty = it.ty;
+      };
+      text = string_bytes it.text;
     } };
 }
 
@@ -130,7 +129,10 @@ impl<'a> Formatter<'a> {
         let (fill, align) = if parts.zero {
             ('0', Alignment::Equal)
         } else {
-            (parts.fill.unwrap_or(' '), parts.align.unwrap_or(Alignment::Unspecified))
+            (
+                parts.fill.unwrap_or(' '),
+                parts.align.unwrap_or(Alignment::Unspecified),
+            )
         };
         Formatter {
             key,

@@ -6,10 +6,10 @@ mod display;
 mod fmtnum;
 mod fmtstr;
 mod formatter;
+mod key;
 mod law;
 mod map;
 mod padding;
-mod key;
 mod parts;
 mod types;
 

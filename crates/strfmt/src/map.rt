@@ -29,7 +29,11 @@ fn look_up<'a, K: Hash + Eq + FromKey, D: DisplayStr>(
 }
 
 /// Displays the value of the formatter's key.
-fn fill<K: Hash + Eq + FromKey, D: DisplayStr>(alloc: Global, vars: &HashMap<K, D>, f: &mut Formatter<'_>) -> Result<()>
+fn fill<K: Hash + Eq + FromKey, D: DisplayStr>(
+    alloc: Global,
+    vars: &HashMap<K, D>,
+    f: &mut Formatter<'_>,
+) -> Result<()>
     ensures { Displays (filled_by (values K.spells D.meaning vars.now f.old.key) f.old) result f.old f.new }
 {
     match look_up(alloc, vars, f.key) {
@@ -43,15 +47,21 @@ fn fill<K: Hash + Eq + FromKey, D: DisplayStr>(alloc: Global, vars: &HashMap<K, 
 ///
 /// The first fault from the left is the answer. `KeyError` comes where a key doesn't read or isn't in the map;
 /// a value of a caller's own type may answer any fault, which is passed on.
-pub fn strfmt<K: Hash + Eq + FromKey, T: DisplayStr>(alloc: Global, fmtstr: &str, vars: &HashMap<K, T>) -> Result<String>
+pub fn strfmt<K: Hash + Eq + FromKey, T: DisplayStr>(
+    alloc: Global,
+    fmtstr: &str,
+    vars: &HashMap<K, T>,
+) -> Result<String>
     ensures ok { IfOk result (λ text. Prints (values K.spells T.meaning vars.now) fmtstr.now (Ok (string_bytes text))) }
     ensures err { IfErr result (λ e. (e ≡ FmtError.NoMemory) ⊎ ((fault : Fault) × Prints (values K.spells T.meaning vars.now) fmtstr.now (Err fault) × IsFault e fault)) }
 {
-    strfmt_map(alloc, fmtstr, |f: &mut Formatter<'_>| -> Result<()>
-        ensures { Displays (filled_by (values K.spells T.meaning vars.entry.now f.old.key) f.old) result f.old f.new }
-    {
-        fill(alloc, vars, f)
-    })
+    strfmt_map(
+        alloc,
+        fmtstr,
+        |f: &mut Formatter<'_>| -> Result<()>
+            ensures { Displays (filled_by (values K.spells T.meaning vars.entry.now f.old.key) f.old) result f.old f.new }
+        { fill(alloc, vars, f) },
+    )
 }
 
 /// A text that fills its patterns from a map.
@@ -62,7 +72,11 @@ pub trait Format {
     ghost template: { Self → List ℕ };
 
     /// `strfmt` of the text.
-    fn format<K: Hash + Eq + FromKey, D: DisplayStr>(&self, alloc: Global, vars: &HashMap<K, D>) -> Result<String>
+    fn format<K: Hash + Eq + FromKey, D: DisplayStr>(
+        &self,
+        alloc: Global,
+        vars: &HashMap<K, D>,
+    ) -> Result<String>
         ensures ok { IfOk result (λ text. Prints (values K.spells D.meaning vars.now) (template self.now) (Ok (string_bytes text))) }
         ensures err { IfErr result (λ e. (e ≡ FmtError.NoMemory) ⊎ ((fault : Fault) × Prints (values K.spells D.meaning vars.now) (template self.now) (Err fault) × IsFault e fault)) };
 }
@@ -70,7 +84,11 @@ pub trait Format {
 impl Format for &str {
     ghost template = { λ text. text.now };
 
-    fn format<K: Hash + Eq + FromKey, D: DisplayStr>(&self, alloc: Global, vars: &HashMap<K, D>) -> Result<String> {
+    fn format<K: Hash + Eq + FromKey, D: DisplayStr>(
+        &self,
+        alloc: Global,
+        vars: &HashMap<K, D>,
+    ) -> Result<String> {
         strfmt(alloc, self, vars)
     }
 }
@@ -78,7 +96,11 @@ impl Format for &str {
 impl Format for String {
     ghost template = { λ text. string_bytes text };
 
-    fn format<K: Hash + Eq + FromKey, D: DisplayStr>(&self, alloc: Global, vars: &HashMap<K, D>) -> Result<String> {
+    fn format<K: Hash + Eq + FromKey, D: DisplayStr>(
+        &self,
+        alloc: Global,
+        vars: &HashMap<K, D>,
+    ) -> Result<String> {
         strfmt(alloc, self.as_str(), vars)
     }
 }

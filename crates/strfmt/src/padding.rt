@@ -60,11 +60,20 @@ pub(crate) fn count_chars(text: &str) -> usize
 fn field_size(front: usize, text: usize, fill: usize, count: usize) -> Option<usize>
     ensures { IfSome result (λ n. n ≡ front + text + count * fill) }
 {
-    count.checked_mul(fill)?.checked_add(text)?.checked_add(front)
+    count
+        .checked_mul(fill)?
+        .checked_add(text)?
+        .checked_add(front)
 }
 
 /// Appends `front`, and then `text` with fills on both sides, or nothing where there is no room for all.
-pub(crate) fn push_field(out: &mut String, front: &str, text: &str, fill: char, sides: (usize, usize)) -> std::result::Result<(), NoMemory>
+pub(crate) fn push_field(
+    out: &mut String,
+    front: &str,
+    text: &str,
+    fill: char,
+    sides: (usize, usize),
+) -> std::result::Result<(), NoMemory>
     requires { sides.0 + sides.1 < 2 ^ 64 }
     ensures ok { OnOk result (string_bytes out.new ≡ string_bytes out.old ++ (front.now ++ (fills sides.0 fill ++ (text.now ++ fills sides.1 fill)))) }
     ensures err { OnErr result (string_bytes out.new ≡ string_bytes out.old) }

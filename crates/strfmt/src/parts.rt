@@ -27,16 +27,16 @@ impl<'a> Model for Parts<'a> {
     ghost Value = { WrittenParts };
 
     ghost view = { λ it. record {
-        fill = it.fill;
-        align = it.align;
-        sign = it.sign;
-        alternate = it.alternate;
-        zero = it.zero;
-        width = it.width;
-        thousands = it.thousands;
-        dot = it.dot;
-        precision = it.precision;
-        left = it.left.now;
+      fill = it.fill;
+      align = it.align;
+      sign = it.sign;
+      alternate = it.alternate;
+      zero = it.zero;
+      width = it.width;
+      thousands = it.thousands;
+      dot = it.dot;
+      precision = it.precision;
+      left = it.left.now;
     } };
 }
 
@@ -172,11 +172,7 @@ fn number_after(dot: bool, text: &[u8]) -> (Option<usize>, &[u8])
     ensures value { result.0 ≡ capped_number (precision_part dot text.now).value }
     ensures rest { result.1.now ≡ (precision_part dot text.now).rest }
 {
-    if dot {
-        number(text)
-    } else {
-        (None, text)
-    }
+    if dot { number(text) } else { (None, text) }
 }
 
 /// Cuts a specification into its parts.

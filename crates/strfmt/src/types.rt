@@ -107,21 +107,30 @@ pub(crate) fn bad_comma(alloc: Global, ty: u8) -> FmtError
     ensures { IsFaultOrMemory result (invalid (bad_comma ty)) }
 {
     let character = char::from(ty);
-    format!(in alloc; "Invalid comma type: {character}").map_or(FmtError::NoMemory, FmtError::Invalid)
+    format!(in alloc; "Invalid comma type: {character}").map_or(
+        FmtError::NoMemory,
+        FmtError::Invalid,
+    )
 }
 
 /// The refusal of a type that isn't one of a text.
 pub(crate) fn not_of_texts(alloc: Global, ty: char) -> FmtError
     ensures { IsFaultOrMemory result (type_error (not_of_texts ty)) }
 {
-    format!(in alloc; "Unknown format code Some('{ty}') for object of type 'str'").map_or(FmtError::NoMemory, FmtError::TypeError)
+    format!(in alloc; "Unknown format code Some('{ty}') for object of type 'str'").map_or(
+        FmtError::NoMemory,
+        FmtError::TypeError,
+    )
 }
 
 /// The refusal of a type that isn't one of an integer.
 pub(crate) fn not_of_integers(alloc: Global, ty: char) -> FmtError
     ensures { IsFaultOrMemory result (type_error (not_of_integers ty)) }
 {
-    format!(in alloc; "Unknown format code '{ty}' for type").map_or(FmtError::NoMemory, FmtError::TypeError)
+    format!(in alloc; "Unknown format code '{ty}' for type").map_or(
+        FmtError::NoMemory,
+        FmtError::TypeError,
+    )
 }
 
 /// The refusal of a key without a value.

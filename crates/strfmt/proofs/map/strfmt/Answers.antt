@@ -10,13 +10,13 @@ returns-clause-ok g c =
     let meanings : List ℕ → Option Meaning = values g.K.FromKey.spells g.T.DisplayStr.meaning c.args.vars.now in
     IfOk-weaker c.strfmt_map.result _ _
     (λ text walk. walk_text _ _ meanings
-      (λ view left answer f' k. (search (rules, k.called.met), filled_at meanings view k.shown.now left k.leaves.now answer k.shows k.left_is (search (rules, k.called.met))))
-      _ _ walk) c.strfmt_map.ensures.ok
+    (λ view left answer f' k. (search (rules, k.called.met), filled_at meanings view k.shown.now left k.leaves.now answer k.shows k.left_is (search (rules, k.called.met))))
+    _ _ walk) c.strfmt_map.ensures.ok
 
 pub returns-clause-err : goal.returns-clause-err
 returns-clause-err g c =
     let meanings : List ℕ → Option Meaning = values g.K.FromKey.spells g.T.DisplayStr.meaning c.args.vars.now in
     IfErr-weaker c.strfmt_map.result _ _
     (λ error walk. walk_error _ _ meanings
-      (λ view left answer f' k. (search (rules, k.called.met), filled_at meanings view k.shown.now left k.leaves.now answer k.shows k.left_is (search (rules, k.called.met))))
-      _ _ walk) c.strfmt_map.ensures.err
+    (λ view left answer f' k. (search (rules, k.called.met), filled_at meanings view k.shown.now left k.leaves.now answer k.shows k.left_is (search (rules, k.called.met))))
+    _ _ walk) c.strfmt_map.ensures.err

@@ -16,7 +16,7 @@ loop-i-preserved c =
     let len = rw c.unwrap.ensures at c.push.ensures.len in
     record {
       bytes = bytes ∙ ap (λ (bs : List ℕ). bs ++ encode_utf8 c.args.fill) c.loop-i.invariant.bytes ∙ append_assoc _ _ (encode_utf8 c.args.fill)
-      ∙ ap (λ (bs : List ℕ). string_bytes c.args.out.now ++ bs) (sym (fills-more c.loop-i.i c.args.fill));
+          ∙ ap (λ (bs : List ℕ). string_bytes c.args.out.now ++ bs) (sym (fills-more c.loop-i.i c.args.fill));
       len = omega (arith, len, length-encode c.args.fill, c.loop-i.invariant.len);
       capacity = omega (arith, c.loop-i.invariant.capacity, c.push.ensures.capacity);
     }
