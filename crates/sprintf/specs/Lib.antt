@@ -1,0 +1,6 @@
+pub mod Grammar
+pub mod Field
+pub mod Meaning
+pub mod Carried
+pub mod Printed
+pub mod Laws
