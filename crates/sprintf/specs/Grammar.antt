@@ -1,6 +1,6 @@
 -- The grammar of printf formats: which elements a text spells.
-use Rattle.std.specs.Prelude.{◌≡◌, ◌≢◌, ℕ, ◌≤◌, ◌<◌, ◌⊎◌, ◌↔◌, ℤ, pos, IsTrue, List, [], ◌∷◌, ◌++◌, length, All, Contains, codes, slice_index, ⊤}
-use Rattle.std.specs.List.{concat, AllZip}
+use Rattle.std.specs.Prelude.{◌≡◌, ◌≢◌, ℕ, ◌≤◌, ◌<◌, ◌⊎◌, ◌||◌, ◌==◌, ℤ, pos, Bool, true, List, [], ◌∷◌, ◌++◌, length, All, Contains, codes, slice_index, ⊤}
+use Rattle.std.specs.List.{concat, list_any, AllPass, AllZip}
 use Rattle.std.specs.Str.{byte}
 use Rattle.numerals.specs.Numeral.{IsDigitText, text_value}
 use Rattle.sprintf.specs.declared.parser.ConversionSpecifier.{ConversionSpecifier}
@@ -11,9 +11,13 @@ use Rattle.sprintf.specs.declared.parser.FormatElement.TheVariants.{Verbatim, Fo
 use Rattle.sprintf.specs.declared.parser.NumericParam.{NumericParam}
 use Rattle.sprintf.specs.declared.parser.NumericParam.TheVariants.{Literal, FromArgument}
 
--- the characters of the flags
-abbrev pub flag_characters : List ℕ
-flag_characters = codes "#0- +"
+-- whether the character is one of these
+abbrev pub has : List ℕ → ℕ → Bool
+has characters c = list_any (λ x. x == c) characters
+
+-- the flags
+abbrev pub is_flag : ℕ → Bool
+is_flag c = has (codes "#0- +") c
 
 -- the decimal digits state the number, which is at most the greatest i32
 pub record IsCount (digits : List ℕ) (n : ℕ) : Type 0 where
@@ -68,17 +72,17 @@ pub record IsField (text : List ℕ) (f : ConversionSpecifier) : Type 0 where
   pub letter : ℕ
   pub whole : text ≡ codes "%" ++ flags ++ width ++ precision ++ modifier ++ letter ∷ []
 
-  pub only_flags : All (Contains flag_characters) flags
-  pub alt_form : IsTrue f.alt_form ↔ (Contains flags (byte "#") ⊎ (letter ≡ byte "p"))
-  pub zero_pad : IsTrue f.zero_pad ↔ Contains flags (byte "0")
-  pub left_adj : IsTrue f.left_adj ↔ Contains flags (byte "-")
-  pub space_sign : IsTrue f.space_sign ↔ Contains flags (byte " ")
-  pub force_sign : IsTrue f.force_sign ↔ Contains flags (byte "+")
+  pub only_flags : AllPass is_flag flags
+  pub alt_form : f.alt_form ≡ (has flags (byte "#") || (letter == byte "p"))
+  pub zero_pad : f.zero_pad ≡ has flags (byte "0")
+  pub left_adj : f.left_adj ≡ has flags (byte "-")
+  pub space_sign : f.space_sign ≡ has flags (byte " ")
+  pub force_sign : f.force_sign ≡ has flags (byte "+")
 
   pub is_width : IsWidth width f.width
   pub is_precision : IsPrecision f.conversion_type precision f.precision
   pub is_modifier : (modifier ≡ []) ⊎ Contains length_modifiers modifier
-  pub is_letter : Contains (letters_of f.conversion_type) letter
+  pub is_letter : has (letters_of f.conversion_type) letter ≡ true
 
 -- the text spells the element; a literal run is nonempty and has no `%`
 abbrev pub Spells : FormatElement → List ℕ → Type 0

@@ -1,7 +1,7 @@
 -- What a list of elements prints over a list of values: a text, or the first fault from the left.
-use Rattle.std.specs.Prelude.{ℕ, ℤ, List, [], ◌∷◌, ◌++◌, codes, Option, Some, None, Result, Ok, Err}
+use Rattle.std.specs.Prelude.{◌≡◌, ◌⊎◌, ℕ, ℤ, List, [], ◌∷◌, ◌++◌, codes, Option, Some, None, Result, Ok, Err}
 use Rattle.sprintf.specs.declared.PrintfError.{PrintfError}
-use Rattle.sprintf.specs.declared.PrintfError.TheVariants.{WrongType, TooManyArgs, NotEnoughArgs}
+use Rattle.sprintf.specs.declared.PrintfError.TheVariants.{ParseError, WrongType, TooManyArgs, NotEnoughArgs}
 use Rattle.sprintf.specs.declared.parser.ConversionSpecifier.{ConversionSpecifier}
 use Rattle.sprintf.specs.declared.parser.ConversionType.{ConversionType}
 use Rattle.sprintf.specs.declared.parser.ConversionType.TheVariants.{PercentSign}
@@ -9,6 +9,7 @@ use Rattle.sprintf.specs.declared.parser.FormatElement.{FormatElement}
 use Rattle.sprintf.specs.declared.parser.FormatElement.TheVariants.{Verbatim, Format}
 use Rattle.sprintf.specs.declared.parser.NumericParam.{NumericParam}
 use Rattle.sprintf.specs.declared.parser.NumericParam.TheVariants.{Literal, FromArgument}
+use Rattle.sprintf.specs.Grammar.{IsFormat, IsNoFormat}
 use Rattle.sprintf.specs.Meaning.{Meaning}
 
 -- an answer and the values that are left, or a fault
@@ -60,3 +61,11 @@ printed [] [] = Ok []
 printed [] (v ∷ values) = Err TooManyArgs
 printed (Verbatim s ∷ es) values = onto s.now (printed es values)
 printed (Format f ∷ es) values = then_by (take_field f values) (λ text values. onto text (printed es values))
+
+-- the text is a format, and this is what its elements print
+abbrev pub PrintsFormat : List ℕ → List Meaning → List ℕ → Type 0
+PrintsFormat format values text = (elements : List FormatElement) × IsFormat format elements × (printed elements values ≡ Ok text)
+
+-- the text is no format, or this is the first fault of what its elements print
+abbrev pub RefusesFormat : List ℕ → List Meaning → PrintfError → Type 0
+RefusesFormat format values fault = (IsNoFormat format × (fault ≡ ParseError)) ⊎ ((elements : List FormatElement) × IsFormat format elements × (printed elements values ≡ Err fault))
