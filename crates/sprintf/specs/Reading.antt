@@ -1,8 +1,8 @@
 -- What the private functions promise, which read a field from the front of a text and write one behind a text. Nothing public cites it.
-use Rattle.std.specs.Prelude.{◌≡◌, ◌||◌, ◌==◌, ℕ, ℤ, pos, List, [], ◌∷◌, ◌++◌, length, take, drop, nat_le, if◌then◌else◌, Option, Some, None, Result, Ok}
+use Rattle.std.specs.Prelude.{◌≡◌, ◌||◌, ◌==◌, ℕ, ℤ, pos, List, [], ◌∷◌, ◌++◌, length, take, drop, nat_le, if◌then◌else◌, Option, Some, None, unwrap_or, Result, Ok}
 use Rattle.std.specs.Borrow.{Bor}
 use Rattle.std.specs.Char.{is_ascii_digit}
-use Rattle.std.specs.List.{prefix_len, starts_with}
+use Rattle.std.specs.List.{prefix_len}
 use Rattle.std.specs.Str.{byte}
 use Rattle.numerals.specs.Numeral.{text_value}
 use Rattle.sprintf.specs.declared.PrintfError.{PrintfError}
@@ -29,7 +29,7 @@ read_count digits rest = if nat_le (text_value 10 digits) 2147483647 then Some (
 -- a width, or a precision behind its `.`
 abbrev pub read_param : List ℕ → Option (NumericParam × List ℕ)
 read_param [] = Some (Literal (pos 0), [])
-read_param (c ∷ text) = if c == byte "*" then Some (FromArgument, text) else (let n = prefix_len is_ascii_digit (c ∷ text) in read_count (take n (c ∷ text)) (drop n (c ∷ text)))
+read_param (c ∷ text) = if byte "*" == c then Some (FromArgument, text) else (let n = prefix_len is_ascii_digit (c ∷ text) in read_count (take n (c ∷ text)) (drop n (c ∷ text)))
 
 abbrev pub written : Option (NumericParam × List ℕ) → Option (Option NumericParam × List ℕ)
 written (Some r) = Some (Some r.0, r.1)
@@ -38,12 +38,18 @@ written None = None
 -- a precision with its `.`, where there is one
 abbrev pub read_precision : List ℕ → Option (Option NumericParam × List ℕ)
 read_precision [] = Some (None, [])
-read_precision (c ∷ text) = if c == byte "." then written (read_param text) else Some (None, c ∷ text)
+read_precision (c ∷ text) = if byte "." == c then written (read_param text) else Some (None, c ∷ text)
 
--- the text behind the first of these words that it begins with
+-- the text behind the word, where it begins with it
+abbrev pub behind : List ℕ → List ℕ → Option (List ℕ)
+behind [] text = Some text
+behind (c ∷ word) [] = None
+behind (c ∷ word) (b ∷ text) = if c == b then behind word text else None
+
+-- the text behind the first of these words that it begins with, or all of it
 abbrev pub skip_one : List (List ℕ) → List ℕ → List ℕ
 skip_one [] text = text
-skip_one (word ∷ words) text = if starts_with (λ a b. a == b) text word then drop (length word) text else skip_one words text
+skip_one (word ∷ words) text = unwrap_or (behind word text) (skip_one words text)
 
 -- the conversion that a character stands for, among these
 abbrev pub conversion_among : List ConversionType → ℕ → Option ConversionType

@@ -1,10 +1,11 @@
 // Formats: their elements, and the reading of a text as elements.
-ghost use Rattle.std.specs.Prelude.{◌≡◌, ◌⊎◌, ◌++◌, ◌∷◌, [], ◌≤◌, ℕ, pos, length, take, drop, encode_utf8, IfOk, IfErr, OnOk, IfSome, IsNone, SomeIff, Some, None};
+ghost use Rattle.std.specs.Prelude.{◌≡◌, ◌⊎◌, ◌||◌, ◌==◌, ◌++◌, ◌∷◌, [], ◌≤◌, ℕ, pos, length, map, take, drop, encode_utf8, IfOk, IfErr, OnOk, IfSome, IsNone, SomeIff, Some, None};
 ghost use Rattle.std.specs.Char.{is_ascii_digit};
 ghost use Rattle.std.specs.List.{prefix_len};
+ghost use Rattle.std.specs.Str.{byte};
 ghost use Rattle.numerals.specs.Numeral.{text_value};
-ghost use Rattle.sprintf.specs.Grammar.{IsFormat, IsNoFormat, is_flag, length_modifiers, default_precision};
-ghost use Rattle.sprintf.specs.Reading.{read_field, read_param, read_precision, skip_one, conversion_of, verbatim};
+ghost use Rattle.sprintf.specs.Grammar.{IsFormat, IsNoFormat, has, is_flag, length_modifiers, default_precision};
+ghost use Rattle.sprintf.specs.Reading.{field_with, read_field, read_param, read_precision, skip_one, conversion_of, verbatim};
 
 use crate::{PrintfError, Result};
 use numerals::{Radix, read_digits};
@@ -133,9 +134,22 @@ fn take_conversion_specifier(text: &str) -> Option<(ConversionSpecifier, &str)>
     let (precision, text) = take_precision(text)?;
     let (letter, rest) = take_char(skip_length_modifier(text))?;
     let conversion_type = conversion_of(letter)?;
-    let flags = flags.as_bytes();
-    let spec = ConversionSpecifier {
-        alt_form: flags.contains(&b'#') || letter == 'p',
+    let spec = specifier(flags.as_bytes(), width, precision, letter, conversion_type);
+    Some((spec, rest))
+}
+
+/// The field of these parts.
+fn specifier(
+    flags: &[u8],
+    width: NumericParam,
+    precision: Option<NumericParam>,
+    letter: char,
+    conversion_type: ConversionType,
+) -> ConversionSpecifier
+    ensures { result ≡ field_with flags.now width precision letter conversion_type }
+{
+    ConversionSpecifier {
+        alt_form: wants_prefix(flags, letter),
         zero_pad: flags.contains(&b'0'),
         left_adj: flags.contains(&b'-'),
         space_sign: flags.contains(&b' '),
@@ -143,8 +157,14 @@ fn take_conversion_specifier(text: &str) -> Option<(ConversionSpecifier, &str)>
         width,
         precision: precision.unwrap_or(default_precision(conversion_type)),
         conversion_type,
-    };
-    Some((spec, rest))
+    }
+}
+
+/// `p` sets the flag `#`.
+fn wants_prefix(flags: &[u8], letter: char) -> bool
+    ensures { result ≡ (has flags.now (byte "#") || (letter == byte "p")) }
+{
+    flags.contains(&b'#') || letter == 'p'
 }
 
 /// The flags in front, and what follows them.
@@ -159,11 +179,17 @@ fn flags_len(bytes: &[u8]) -> usize
     ensures { result ≡ prefix_len is_flag bytes.now }
 {
     for (i, byte) in bytes.iter().enumerate() {
-        if !matches!(byte, b'#' | b'0' | b'-' | b' ' | b'+') {
+        if !is_flag(*byte) {
             return i;
         }
     }
     bytes.len()
+}
+
+fn is_flag(byte: u8) -> bool
+    ensures { result ≡ is_flag byte }
+{
+    b"#0- +".contains(&byte)
 }
 
 /// The digits in front, and what follows them.
@@ -205,7 +231,8 @@ fn count_of(digits: &str) -> Option<i32>
     if digits.is_empty() {
         return Some(0);
     }
-    i32::try_from(read_digits(digits, Radix::Ten)?).ok()
+    let number = read_digits(digits, Radix::Ten)?;
+    i32::try_from(number).ok()
 }
 
 /// Reads a precision with its `.`, where there is one, and gives what follows it.
@@ -224,8 +251,16 @@ fn take_precision(text: &str) -> Option<(Option<NumericParam>, &str)>
 fn skip_length_modifier(text: &str) -> &str
     ensures { result.now ≡ skip_one length_modifiers text.now }
 {
-    for modifier in ["hh", "h", "ll", "l", "q", "L", "j", "z", "Z", "t"] {
-        if let Some(rest) = text.strip_prefix(modifier) {
+    let modifiers = ["hh", "h", "ll", "l", "q", "L", "j", "z", "Z", "t"];
+    strip_one(text, &modifiers)
+}
+
+/// The text behind the first of the words that it begins with, or all of it.
+fn strip_one<'t>(text: &'t str, words: &[&str]) -> &'t str
+    ensures { result.now ≡ skip_one (map (λ w. w.now) words.now) text.now }
+{
+    for word in words {
+        if let Some(rest) = text.strip_prefix(*word) {
             return rest;
         }
     }
