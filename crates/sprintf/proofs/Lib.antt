@@ -1,3 +1,6 @@
 pub mod Digits
 pub mod Runs
 pub mod Letters
+pub mod Complete
+pub mod Sound
+pub mod Formats

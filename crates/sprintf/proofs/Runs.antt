@@ -17,6 +17,18 @@ boundary_at p low bs utf8 (suc m) e =
 pub boundary_behind : (p : ℕ → Bool) → ((c : ℕ) → p c ≡ true → c < 128) → (bs : List ℕ) → IsUtf8 bs → IsCharBoundary bs (prefix_len p bs)
 boundary_behind p low bs utf8 = boundary_at p low bs utf8 (prefix_len p bs) refl
 
+-- a count that is not 0
+pub counted : (b : Bool) (n m : ℕ) → cond b (1 + n) 0 ≡ suc m → (b ≡ true) × (n ≡ m)
+counted true n m e = (refl, omega arith)
+counted false n m e = absurd (omega arith)
+
+-- a run ends where the text behind it begins with none of its characters
+pub prefix_len-append : (p : ℕ → Bool) (xs ys : List ℕ) → prefix_len p xs ≡ length xs → prefix_len p ys ≡ 0 → prefix_len p (xs ++ ys) ≡ length xs
+prefix_len-append p [] ys e f = f
+prefix_len-append p (x ∷ xs) ys e f =
+    let s : (p x ≡ true) × (prefix_len p xs ≡ length xs) = counted (p x) _ _ e in
+    rw (s.0, prefix_len-append p xs ys s.1 f) (omega arith)
+
 -- a run is all run
 run_of : (p : ℕ → Bool) (b : Bool) (x : ℕ) (xs : List ℕ) → b ≡ p x → prefix_len p (take (prefix_len p xs) xs) ≡ length (take (prefix_len p xs) xs) → prefix_len p (take (cond b (1 + prefix_len p xs) 0) (x ∷ xs)) ≡ length (take (cond b (1 + prefix_len p xs) 0) (x ∷ xs))
 run_of p true x xs e ih = rw (one-add (prefix_len p xs), ← e) (omega (arith, ih))

@@ -95,7 +95,9 @@ pub fn parse_format_string(alloc: Global, fmt: &str) -> Result<Vec<FormatElement
     let mut rest = fmt;
     while let Some((text, field)) = rest.split_once('%') {
         push_text(&mut elements, text)?;
-        let (spec, after) = take_conversion_specifier(field).ok_or(PrintfError::ParseError)?;
+        let Some((spec, after)) = take_conversion_specifier(field) else {
+            return Err(PrintfError::ParseError);
+        };
         push_element(&mut elements, FormatElement::Format(spec))?;
         rest = after;
     }
