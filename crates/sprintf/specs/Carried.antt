@@ -1,5 +1,5 @@
 -- What the values of each carried type are to a format: which conversions they take, and with what text.
-use Rattle.std.specs.Prelude.{ℕ, ℤ, pos, negsuc, Bool, true, if◌then◌else◌, ◌&&◌, nat_lt, nat_le, List, Option, Some, None, Result, Err}
+use Rattle.std.specs.Prelude.{◌≡◌, ℕ, ℤ, pos, negsuc, Bool, true, if◌then◌else◌, ◌&&◌, nat_lt, nat_le, List, Option, Some, None, Result, Err}
 use Rattle.sprintf.specs.declared.PrintfError.{PrintfError}
 use Rattle.sprintf.specs.declared.PrintfError.TheVariants.{WrongType}
 use Rattle.sprintf.specs.declared.arg.Arg.{Arg}
@@ -66,3 +66,8 @@ arg_meaning (I64 z) = signed_meaning 64 z
 arg_meaning (Isize z) = signed_meaning 64 z
 arg_meaning (Char c) = char_meaning c
 arg_meaning (Str s) = word_meaning s.now
+
+-- the value is this text
+abbrev pub IsText : Arg → List ℕ → Type 0
+IsText (Str s) bytes = s.now ≡ bytes
+IsText _ bytes = ⊥

@@ -1,7 +1,7 @@
 -- The text of a field by its parts: spaces in front, a token, and spaces behind. Widths and precisions count bytes.
-use Rattle.std.specs.Prelude.{ℕ, ◌+◌, ◌-◌, ◌^◌, ◌||◌, min, ℤ, pos, negsuc, true, false, if◌then◌else◌, List, [], ◌++◌, length, replicate, take, codes, unsigned_abs, encode_utf8, Result, Ok, Err}
-use Rattle.std.specs.Fmt.{digits}
+use Rattle.std.specs.Prelude.{ℕ, ◌+◌, ◌-◌, ◌^◌, ◌||◌, min, ℤ, pos, negsuc, true, false, if◌then◌else◌, List, [], ◌++◌, length, replicate, take, codes, unsigned_abs, encode_utf8, Option, Some, None, Result, Ok, Err}
 use Rattle.std.specs.Fmt.Cut.{floor_char_boundary}
+use Rattle.numerals.specs.Numeral.{numeral}
 use Rattle.sprintf.specs.declared.PrintfError.{PrintfError}
 use Rattle.sprintf.specs.declared.PrintfError.TheVariants.{Unknown}
 use Rattle.sprintf.specs.declared.parser.ConversionSpecifier.{ConversionSpecifier}
@@ -48,10 +48,10 @@ prefix_of _ = []
 
 -- the digits of a number
 abbrev pub digits_of : ConversionType → ℕ → List ℕ
-digits_of OctInt n = digits 8 false n
-digits_of HexIntLower n = digits 16 false n
-digits_of HexIntUpper n = digits 16 true n
-digits_of _ n = digits 10 false n
+digits_of OctInt n = numeral 8 false n
+digits_of HexIntLower n = numeral 16 false n
+digits_of HexIntUpper n = numeral 16 true n
+digits_of _ n = numeral 10 false n
 
 -- the number whose digits are written: the absolute value in decimal, else a negative number's two's complement at its type's bits
 abbrev pub twos_complement : ℕ → ℤ → ℕ
@@ -78,28 +78,34 @@ word_parts f width word =
 abbrev pub cut_to : ℕ → List ℕ → List ℕ
 cut_to precision word = take (floor_char_boundary word (min precision (length word))) word
 
--- a width or precision as a number, where a negative one counts as 0; one that an argument has yet to give is refused
-abbrev pub with_number : NumericParam → (ℕ → Result (List ℕ) PrintfError) → Result (List ℕ) PrintfError
-with_number (Literal (pos n)) text = text n
-with_number (Literal (negsuc n)) text = text 0
-with_number FromArgument text = Err Unknown
+-- a width or a precision as a number: a negative one counts as 0, and one that an argument has yet to give is none
+abbrev pub number_of : NumericParam → Option ℕ
+number_of (Literal (pos n)) = Some n
+number_of (Literal (negsuc n)) = Some 0
+number_of FromArgument = None
 
--- an unsigned number under a conversion to digits
+-- what goes by such a number; without it the field is refused
+abbrev pub with_number : Option ℕ → (ℕ → Result (List ℕ) PrintfError) → Result (List ℕ) PrintfError
+with_number (Some n) text = text n
+with_number None text = Err Unknown
+
+-- a number under a conversion to digits
+abbrev pub number_text : ConversionSpecifier → List ℕ → ℕ → Result (List ℕ) PrintfError
+number_text f sign n =
+    let t = f.conversion_type in
+    with_number (number_of f.width) (λ width. Ok (text_of (number_parts f width sign (if f.alt_form then prefix_of t else []) (digits_of t n))))
+
 abbrev pub unsigned_text : ConversionSpecifier → ℕ → Result (List ℕ) PrintfError
-unsigned_text f n =
-    let t = f.conversion_type in
-    with_number f.width (λ width. Ok (text_of (number_parts f width [] (if f.alt_form then prefix_of t else []) (digits_of t n))))
+unsigned_text f n = number_text f [] n
 
--- a signed number of a type with so many bits under a conversion to digits
+-- a signed number, of a type with so many bits
 abbrev pub signed_text : ℕ → ConversionSpecifier → ℤ → Result (List ℕ) PrintfError
-signed_text bits f z =
-    let t = f.conversion_type in
-    with_number f.width (λ width. Ok (text_of (number_parts f width (sign_of t f z) (if f.alt_form then prefix_of t else []) (digits_of t (written_of t bits z)))))
+signed_text bits f z = number_text f (sign_of f.conversion_type f z) (written_of f.conversion_type bits z)
 
 -- a character, which no precision cuts
 abbrev pub character_text : ConversionSpecifier → ℕ → Result (List ℕ) PrintfError
-character_text f c = with_number f.width (λ width. Ok (text_of (word_parts f width (encode_utf8 c))))
+character_text f c = with_number (number_of f.width) (λ width. Ok (text_of (word_parts f width (encode_utf8 c))))
 
 -- a word, cut to its precision
 abbrev pub word_text : ConversionSpecifier → List ℕ → Result (List ℕ) PrintfError
-word_text f word = with_number f.width (λ width. with_number f.precision (λ precision. Ok (text_of (word_parts f width (cut_to precision word)))))
+word_text f word = with_number (number_of f.width) (λ width. with_number (number_of f.precision) (λ precision. Ok (text_of (word_parts f width (cut_to precision word)))))
