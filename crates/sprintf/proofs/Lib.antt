@@ -4,3 +4,4 @@ pub mod Letters
 pub mod Complete
 pub mod Sound
 pub mod Formats
+pub mod FieldText
