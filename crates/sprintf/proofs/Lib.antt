@@ -5,3 +5,5 @@ pub mod Complete
 pub mod Sound
 pub mod Formats
 pub mod FieldText
+pub mod Uniqueness
+pub mod Filled

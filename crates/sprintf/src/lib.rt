@@ -7,10 +7,12 @@ ghost use Rattle.sprintf.specs.Reading.{Prints};
 
 mod arg;
 mod format;
+mod laws;
 pub mod parser;
 
 pub use arg::Arg;
 pub use format::Printf;
+pub use laws::{fills_its_width, one_element_list, one_value};
 pub use parser::{ConversionSpecifier, ConversionType, NumericParam};
 use parser::{FormatElement, parse_format_string};
 use std::alloc::Global;
