@@ -48,11 +48,11 @@ all_plain [] p k d h = absurd (omega arith)
 all_plain (c ∷ text) p zero d h = p.0
 all_plain (c ∷ text) p (suc k) d h = all_plain text p.1 k d (omega arith)
 
-not_plain : (a x : List ℕ) → IsPlain (a ++ 37 ∷ x) → ⊥
+pub not_plain : (a x : List ℕ) → IsPlain (a ++ 37 ∷ x) → ⊥
 not_plain [] x p = p.0 refl
 not_plain (c ∷ a) x p = not_plain a x p.1
 
-split_same : (a b x y : List ℕ) → IsPlain a → IsPlain b → a ++ 37 ∷ x ≡ b ++ 37 ∷ y → (a ≡ b) × (x ≡ y)
+pub split_same : (a b x y : List ℕ) → IsPlain a → IsPlain b → a ++ 37 ∷ x ≡ b ++ 37 ∷ y → (a ≡ b) × (x ≡ y)
 split_same [] [] x y p q e = (refl, cc)
 split_same [] (c ∷ b) x y p q e = let same : c ≡ 37 = cc in absurd (q.0 same)
 split_same (c ∷ a) [] x y p q e = let same : c ≡ 37 = cc in absurd (p.0 same)
@@ -82,7 +82,7 @@ with_field run text piece rest f more plain k goes_on e =
     let whole : text ≡ run ++ 37 ∷ (body_of k ++ rest) = e ∙ ap (λ (x : List ℕ). run ++ (x ++ rest)) k.whole in
     record { run = run; plain = plain; piece = piece; field = f; spelled = k; rest = rest; more = more; goes_on = goes_on; whole = whole }
 
-plain_of : (piece : List ℕ) → All (λ c. c ≢ 37) piece → IsPlain piece
+pub plain_of : (piece : List ℕ) → All (λ c. c ≢ 37) piece → IsPlain piece
 plain_of piece h = plain_at piece (λ i k. h i 0 k)
 
 -- a format is plain, or has a first field
