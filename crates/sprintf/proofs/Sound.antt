@@ -176,9 +176,22 @@ module _ (flags w p m : List ℕ) (letter : ℕ) (t : ConversionType) (width : N
   spelled_from : AllPass is_flag flags → IsWidth w width → IsPrecision t p (precision_or_default o t) → (m ≡ []) ⊎ Contains length_modifiers m → has (letters_of t) letter ≡ true → IsField (37 ∷ body) (field_with flags width o letter t)
   unfolding body
   spelled_from all a b c d = record {
-    flags = flags; width = w; precision = p; modifier = m; letter = letter; whole = refl;
-    only_flags = all; alt_form = refl; zero_pad = refl; left_adj = refl; space_sign = refl; force_sign = refl;
-    is_width = a; is_precision = b; is_modifier = c; is_letter = d;
+    flags = flags;
+    width = w;
+    precision = p;
+    modifier = m;
+    letter = letter;
+    whole = refl;
+    only_flags = all;
+    alt_form = refl;
+    zero_pad = refl;
+    left_adj = refl;
+    space_sign = refl;
+    force_sign = refl;
+    is_width = a;
+    is_precision = b;
+    is_modifier = c;
+    is_letter = d;
   }
 
 field_is : (text left body : List ℕ) (f g : ConversionSpecifier) → text ≡ body ++ left → f ≡ g → IsField (37 ∷ body) g → ReadsField text f left
