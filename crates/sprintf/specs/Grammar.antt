@@ -1,5 +1,5 @@
 -- The grammar of printf formats: which elements a text spells.
-use Rattle.std.specs.Prelude.{◌≡◌, ◌≢◌, ℕ, ◌≤◌, ◌<◌, ◌⊎◌, ◌||◌, ◌==◌, ℤ, pos, Bool, true, List, [], ◌∷◌, ◌++◌, length, All, Contains, codes, slice_index, ⊤}
+use Rattle.std.specs.Prelude.{◌≡◌, ◌≢◌, ℕ, ◌≤◌, ◌<◌, ◌⊎◌, ◌||◌, ◌==◌, pos, Bool, true, List, [], ◌∷◌, ◌++◌, length, All, Contains, codes, slice_index, ⊤}
 use Rattle.std.specs.List.{concat, list_any, AllPass, AllZip}
 use Rattle.std.specs.Str.{byte}
 use Rattle.numerals.specs.Numeral.{IsDigitText, text_value}

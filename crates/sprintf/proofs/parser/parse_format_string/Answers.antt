@@ -1,9 +1,7 @@
-use Rattle.std.proofs.Common.{◌≡◌, ◌≢◌, ◌++◌, ◌∷◌, [], ℕ, ◌<◌, List, length, get_or, Some, None, arith, subst, sym, inl, refl, ◌∙◌, ap, append_assoc, rules}
+use Rattle.std.proofs.Common.{◌≡◌, ◌++◌, ◌∷◌, [], ℕ, List, arith, subst, sym, inl, refl, append_assoc, rules}
 use Rattle.std.proofs.lemmas.Str.Pattern.{split_parts}
-use Rattle.std.proofs.lemmas.List.{append-nil}
 use Rattle.sprintf.specs.declared.parser.FormatElement.{FormatElement}
-use Rattle.sprintf.specs.declared.parser.FormatElement.TheVariants.{Format}
-use Rattle.sprintf.specs.Grammar.{IsFormat, IsNoFormat}
+use Rattle.sprintf.specs.Grammar.{IsFormat}
 use Rattle.sprintf.specs.Reading.{verbatim}
 use Rattle.sprintf.proofs.Formats.{step_sound, step_complete, step_fails, end_sound, plain_at, shorter}
 use Rattle.sprintf.proofs.parser.parse_format_string.Goals as goal
