@@ -1,5 +1,5 @@
 -- What the digits of a number are to those of its quotient.
-use Rattle.std.proofs.Common.{Result, Ok, Err, ◌≢◌, ◌≡◌, ℕ, suc, ◌+◌, ◌*◌, ◌/◌, ◌%◌, ◌^◌, ◌<◌, ◌≤◌, List, [], ◌∷◌, ◌++◌, length, map, ◌∙◌, arith, length-append, get_or}
+use Rattle.std.proofs.Common.{ap, Result, Ok, Err, ◌≢◌, ◌≡◌, ℕ, suc, ◌+◌, ◌*◌, ◌/◌, ◌%◌, ◌^◌, ◌<◌, ◌≤◌, List, [], ◌∷◌, ◌++◌, length, map, ◌∙◌, arith, length-append, get_or}
 use Rattle.std.proofs.Math.Nat.{pow-suc, pow-zero, le-div_iff_mul-le}
 use Rattle.std.proofs.lemmas.Grind.{common_steps}
 use Rattle.std.specs.Char.{digit_value}
@@ -57,6 +57,10 @@ AllBelow-from_digits b (c ∷ cs) h = (h.0, AllBelow-from_digits b cs h.1)
 pub digits_from-AllBelow : (b : ℕ) (bs : List ℕ) → AllBelow b (map digit_value bs) → AllDigits b bs
 digits_from-AllBelow b [] h = tt
 digits_from-AllBelow b (c ∷ cs) h = (h.0, digits_from-AllBelow b cs h.1)
+
+pub no_plus : (bs : List ℕ) → ((rest : List ℕ) → bs ≡ 43 ∷ [] ++ rest → ⊥) → get_or bs 0 0 ≢ 43
+no_plus [] h = λ e. absurd (omega (arith, e))
+no_plus (c ∷ cs) h = λ e. h cs (ap (λ x. x ∷ cs) e)
 
 -- what std's reading answers of a text that does not begin with a plus
 pub reads_text : {E : Type 0} (b : ℕ) (bs : List ℕ) (r : Result ℕ E) → get_or bs 0 0 ≢ 43 → ParsesUnsigned 128 b bs r → SomeIff (result_ok r) (IsDigitText b bs × (text_value b bs < 2 ^ 128)) (text_value b bs)

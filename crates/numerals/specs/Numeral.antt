@@ -1,3 +1,4 @@
+-- What a numeral is, and what digit characters stand for.
 use Rattle.std.specs.Prelude.{◌≡◌, ℕ, ◌+◌, ◌*◌, ◌^◌, ◌<◌, List, [], ◌∷◌, length, map, slice_index, Bool, ⊤}
 use Rattle.std.specs.Fmt.{digit_glyph, digits_onto}
 use Rattle.std.specs.Char.{digit_value}

@@ -6,6 +6,8 @@ ghost use Rattle.numerals.specs.Numeral.{base_of};
 
 mod laws;
 mod read;
+#[cfg(test)]
+mod tests;
 mod write;
 
 pub use laws::{longer_numeral, numeral_is_std, numeral_of_value, numeral_reads_back, one_numeral};

@@ -10,8 +10,8 @@ use crate::Radix;
 pub fn read_digits(text: &str, radix: Radix) -> Option<u128>
     ensures { let b = base_of radix in SomeIff result (IsDigitText b text.now × (text_value b text.now < 2 ^ 128)) (text_value b text.now) }
 {
-    let bytes = text.as_bytes();
-    if bytes.is_empty() || bytes[0] == b'+' {
+    // The standard library reads a plus in front.
+    if text.starts_with('+') {
         return None;
     }
     u128::from_str_radix(text, radix.base()).ok()

@@ -7,7 +7,7 @@ use crate::{NoMemory, Radix};
 use std::str::from_utf8_unchecked;
 
 /// Appends the digits of `n` in the radix: no leading zero, and `0` for 0; `upper` chooses `A` to `F` over `a` to `f`.
-/// Grows `out` at most once, by 128 bytes or less. On `NoMemory` the text is as before.
+/// At most 128 bytes are appended, all at once. On `NoMemory` the text is as before.
 pub fn push_digits(out: &mut String, n: u128, radix: Radix, upper: bool) -> Result<(), NoMemory>
     ensures ok { OnOk result (string_bytes out.new ≡ string_bytes out.old ++ numeral (base_of radix) upper n) }
     ensures err { OnErr result (string_bytes out.new ≡ string_bytes out.old) }
