@@ -1,20 +1,18 @@
 -- Each spelling of a field is read as that field, whatever follows it.
-use Rattle.std.proofs.Common.{◌≡◌, ◌≢◌, ◌==◌, ℕ, zero, suc, ◌+◌, ◌<◌, ◌≤◌, ◌⊎◌, inl, inr, Bool, true, false, not, ◌&&◌, ◌||◌, cond, ℤ, pos, List, [], ◌∷◌, ◌++◌, length, take, drop, map, get_or, Option, Some, None, codes, slice_index, refl, sym, ap, ◌∙◌, subst, arith, one-add, append_assoc, eqb}
+use Rattle.std.proofs.Common.{◌≡◌, ◌≢◌, ◌==◌, ℕ, zero, suc, ◌<◌, ◌≤◌, ◌⊎◌, inl, inr, Bool, true, false, not, ◌&&◌, ◌||◌, pos, List, [], ◌∷◌, ◌++◌, length, take, drop, get_or, Option, Some, None, codes, slice_index, refl, sym, ap, ◌∙◌, subst, arith, append_assoc, eqb}
 use Rattle.std.specs.Char.{is_ascii_digit}
 use Rattle.std.specs.List.{prefix_len, AllByRecursion, AllPass, Contains}
-use Rattle.std.specs.Str.{byte}
 use Rattle.std.proofs.lemmas.Bool.{and_parts}
 use Rattle.std.proofs.lemmas.Bool.Decides.{nat_tests}
 use Rattle.std.proofs.lemmas.Grind.{common_steps}
 use Rattle.std.proofs.lemmas.List.Sums.{prefix_len_is}
-use Rattle.numerals.specs.Numeral.{text_value, IsDigitText, AllBelow}
 use Rattle.sprintf.specs.declared.parser.ConversionSpecifier.{ConversionSpecifier}
 use Rattle.sprintf.specs.declared.parser.ConversionType.{ConversionType}
 use Rattle.sprintf.specs.declared.parser.ConversionType.TheVariants.{DecInt, OctInt, HexIntLower, HexIntUpper, SciFloatLower, SciFloatUpper, DecFloatLower, DecFloatUpper, CompactFloatLower, CompactFloatUpper, Char, String, PercentSign}
 use Rattle.sprintf.specs.declared.parser.NumericParam.{NumericParam}
 use Rattle.sprintf.specs.declared.parser.NumericParam.TheVariants.{Literal, FromArgument}
-use Rattle.sprintf.specs.Grammar.{has, is_flag, IsCount, IsWidth, IsPrecision, no_width, star_width, digits_width, no_precision, bare_precision, star_precision, digits_precision, length_modifiers, letters_of, default_precision, IsField}
-use Rattle.sprintf.specs.Reading.{read_field, read_param, read_precision, read_count, written, read_letter, skip_one, behind, conversion_of, precision_or_default, field_with}
+use Rattle.sprintf.specs.Grammar.{has, is_flag, IsCount, IsWidth, IsPrecision, no_width, star_width, digits_width, no_precision, bare_precision, star_precision, digits_precision, length_modifiers, letters_of, IsField}
+use Rattle.sprintf.specs.Reading.{read_field, read_param, read_precision, read_count, read_letter, skip_one, conversion_of, precision_or_default, field_with}
 use Rattle.sprintf.proofs.Digits.{all_digits, below_digit}
 use Rattle.sprintf.proofs.Runs.{prefix_len-append}
 

@@ -1,11 +1,11 @@
 -- Digit characters: the longest run of them, and their values.
-use Rattle.std.proofs.Common.{◌≡◌, ◌≢◌, ℕ, zero, suc, ◌+◌, ◌<◌, ◌≤◌, Bool, true, false, cond, List, [], ◌∷◌, ◌++◌, length, map, take, drop, get_or, refl, sym, ap, ◌∙◌, arith, rules}
+use Rattle.std.proofs.Common.{◌≡◌, ℕ, ◌<◌, true, List, [], ◌∷◌, length, map, refl, arith}
 use Rattle.std.specs.Char.{is_ascii_digit, digit_value}
 use Rattle.std.specs.List.{prefix_len}
 use Rattle.std.proofs.lemmas.Bool.Decides.{nat_tests}
 use Rattle.std.proofs.lemmas.Grind.{common_steps}
 use Rattle.sprintf.proofs.Runs.{counted}
-use Rattle.numerals.specs.Numeral.{AllBelow, IsDigitText}
+use Rattle.numerals.specs.Numeral.{AllBelow}
 
 -- a digit character has a value below ten, and nothing else has
 pub digit_below : (c : ℕ) → is_ascii_digit c ≡ true → digit_value c < 10

@@ -1,5 +1,5 @@
 -- What is written piece by piece is the text of a field.
-use Rattle.std.proofs.Common.{◌≡◌, ◌≢◌, ℕ, zero, suc, ◌+◌, ◌-◌, ◌<◌, ◌≤◌, ◌^◌, ◌⊎◌, inl, inr, Bool, true, false, cond, min, List, [], ◌∷◌, ◌++◌, length, take, get_or, replicate, refl, sym, ap, ◌∙◌, subst, arith, append_assoc, IsCharBoundary, add-one}
+use Rattle.std.proofs.Common.{◌≡◌, ℕ, zero, suc, ◌+◌, ◌-◌, ◌<◌, ◌≤◌, ◌^◌, ◌⊎◌, inl, inr, Bool, true, false, cond, min, List, ◌++◌, length, get_or, replicate, refl, sym, ◌∙◌, subst, arith, append_assoc, IsCharBoundary}
 use Rattle.std.specs.Fmt.{is_char_start}
 use Rattle.std.specs.Fmt.Cut.{floor_char_boundary}
 use Rattle.std.proofs.lemmas.Bool.{cases_lt, true≢false}
@@ -9,7 +9,7 @@ use Rattle.std.proofs.lemmas.List.{get_or_past}
 use Rattle.numerals.specs.Numeral.{numeral}
 use Rattle.numerals.proofs.Unique.{length-numeral, length-numeral_is}
 use Rattle.sprintf.specs.declared.parser.ConversionSpecifier.{ConversionSpecifier}
-use Rattle.sprintf.specs.Field.{lead_of, zeros_of, trail_of, number_parts, text_of, cut_to}
+use Rattle.sprintf.specs.Field.{lead_of, zeros_of, trail_of, number_parts, text_of}
 
 -- both cases of letters give numerals of one length
 pub length-numeral_case : (b n : ℕ) (upper : Bool) → 2 ≤ b → n < 2 ^ 128 → length (numeral b upper n) ≡ length (numeral b false n)

@@ -1,5 +1,5 @@
 -- A field has at least its width.
-use Rattle.std.proofs.Common.{◌≡◌, ℕ, ◌+◌, ◌-◌, ◌<◌, ◌≤◌, Bool, true, false, cond, ◌||◌, ℤ, pos, negsuc, List, [], ◌∷◌, ◌++◌, length, replicate, nat_lt, Option, Some, None, Result, Ok, Err, string_bytes, encode_utf8, refl, sym, ap, ◌∙◌, subst, arith, length-append}
+use Rattle.std.proofs.Common.{◌≡◌, ℕ, ◌+◌, ◌-◌, ◌≤◌, Bool, true, false, cond, ◌||◌, ℤ, pos, negsuc, List, [], ◌++◌, length, replicate, nat_lt, Option, Some, None, Result, Ok, Err, encode_utf8, subst, arith, length-append}
 use Rattle.std.proofs.lemmas.List.{length-replicate}
 use Rattle.sprintf.specs.declared.PrintfError.{PrintfError}
 use Rattle.sprintf.specs.declared.PrintfError.TheVariants.{WrongType}
@@ -9,7 +9,7 @@ use Rattle.sprintf.specs.declared.parser.ConversionSpecifier.{ConversionSpecifie
 use Rattle.sprintf.specs.declared.parser.ConversionType.{ConversionType}
 use Rattle.sprintf.specs.declared.parser.ConversionType.TheVariants.{DecInt, OctInt, HexIntLower, HexIntUpper, Char as CharConversion, String as StringConversion}
 use Rattle.sprintf.specs.declared.parser.NumericParam.TheVariants.{Literal}
-use Rattle.sprintf.specs.Field.{Parts, text_of, lead_of, zeros_of, trail_of, number_parts, word_parts, number_of, with_number, number_text, unsigned_text, signed_text, character_text, word_text, prefix_of, digits_of, sign_of, written_of, cut_to}
+use Rattle.sprintf.specs.Field.{Parts, text_of, zeros_of, number_parts, word_parts, number_of, with_number, number_text, unsigned_text, signed_text, character_text, word_text, prefix_of, digits_of, sign_of, written_of, cut_to}
 use Rattle.sprintf.specs.Meaning.{by_conversion}
 use Rattle.sprintf.specs.Carried.{arg_meaning, character_where, signed_character, is_character}
 use Rattle.sprintf.specs.Laws.{FillsItsWidth}

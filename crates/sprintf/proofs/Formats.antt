@@ -1,5 +1,5 @@
 -- Formats, one element after another: how a text goes on behind its first field, and that it has one list of elements.
-use Rattle.std.proofs.Common.{◌≡◌, ◌≢◌, ℕ, zero, suc, ◌+◌, ◌<◌, ◌≤◌, ◌⊎◌, inl, inr, Bool, true, false, cond, eqb, List, [], ◌∷◌, ◌++◌, length, get_or, Option, Some, None, refl, sym, ap, ◌∙◌, subst, arith, append_assoc, Bor, All}
+use Rattle.std.proofs.Common.{◌≡◌, ◌≢◌, ℕ, zero, suc, ◌+◌, ◌<◌, ◌⊎◌, inl, inr, true, false, cond, eqb, List, [], ◌∷◌, ◌++◌, length, get_or, Some, None, refl, sym, ap, ◌∙◌, subst, arith, Bor, All}
 use Rattle.std.specs.List.{concat, AllZip, AllByRecursion}
 use Rattle.std.proofs.lemmas.Bool.Decides.{nat_tests}
 use Rattle.std.proofs.lemmas.List.{append-nil}
@@ -7,7 +7,7 @@ use Rattle.std.proofs.Common.{length-append}
 use Rattle.sprintf.specs.declared.parser.ConversionSpecifier.{ConversionSpecifier}
 use Rattle.sprintf.specs.declared.parser.FormatElement.{FormatElement}
 use Rattle.sprintf.specs.declared.parser.FormatElement.TheVariants.{Verbatim, Format}
-use Rattle.sprintf.specs.Grammar.{IsField, Spells, AreApart, IsFormat, IsNoFormat, IsSameElement}
+use Rattle.sprintf.specs.Grammar.{IsField, Spells, AreApart, IsFormat, IsNoFormat}
 use Rattle.sprintf.specs.Reading.{read_field, verbatim}
 use Rattle.sprintf.proofs.Complete.{read_field-is, body_of}
 use Rattle.sprintf.proofs.Sound.{field_sound, some_parts}

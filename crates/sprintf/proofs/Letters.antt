@@ -1,15 +1,13 @@
 -- The characters that stand for conversions.
-use Rattle.std.proofs.Common.{◌≡◌, ◌≢◌, ℕ, zero, suc, ◌+◌, ◌<◌, ◌≤◌, Bool, true, false, List, [], ◌∷◌, ◌++◌, length, Option, Some, None, get_or, encode_utf8, ◌⊎◌, inl, inr, refl, sym, ap, ◌∙◌, arith}
+use Rattle.std.proofs.Common.{◌≡◌, ℕ, ◌<◌, ◌≤◌, false, List, [], ◌∷◌, ◌++◌, Option, Some, None, encode_utf8, ◌⊎◌, inl, inr, refl, arith}
 use Rattle.std.proofs.lemmas.Bool.Decides.{nat_tests}
-use Rattle.std.proofs.lemmas.Grind.{common_steps}
 use Rattle.sprintf.specs.declared.parser.ConversionType.{ConversionType}
 use Rattle.sprintf.specs.declared.parser.ConversionType.TheVariants.{DecInt, OctInt, HexIntLower, HexIntUpper, SciFloatLower, SciFloatUpper, DecFloatLower, DecFloatUpper, CompactFloatLower, CompactFloatUpper, Char, String, PercentSign}
 use Rattle.sprintf.specs.Grammar.{has, letters_of}
 use Rattle.std.proofs.lemmas.Str.{char_from_byte, encode_ascii}
 use Rattle.std.proofs.lemmas.Bool.{cases_lt}
-use Rattle.sprintf.specs.declared.parser.ConversionSpecifier.{ConversionSpecifier}
 use Rattle.sprintf.specs.declared.parser.NumericParam.{NumericParam}
-use Rattle.sprintf.specs.Reading.{conversion_among, conversion_of, all_conversions, read_letter, read_as, field_with}
+use Rattle.sprintf.specs.Reading.{conversion_among, conversion_of, all_conversions, read_letter, field_with}
 
 -- no letter is above ASCII
 has-high : (c : ℕ) (t : ConversionType) → 128 ≤ c → has (letters_of t) c ≡ false

@@ -1,17 +1,16 @@
 -- What is read as a field is a spelling of it.
-use Rattle.std.proofs.Common.{◌≡◌, ◌≢◌, ◌==◌, ℕ, zero, suc, ◌+◌, ◌<◌, ◌≤◌, ◌⊎◌, inl, inr, Bool, true, false, not, ◌&&◌, ◌||◌, cond, leb, ℤ, pos, List, [], ◌∷◌, ◌++◌, length, take, drop, map, get_or, Option, Some, None, unwrap_or, codes, slice_index, refl, sym, ap, ◌∙◌, subst, arith, one-add, append_assoc, eqb}
-use Rattle.std.specs.Char.{is_ascii_digit, digit_value}
+use Rattle.std.proofs.Common.{◌≡◌, ◌≢◌, ℕ, suc, ◌+◌, ◌<◌, ◌≤◌, ◌⊎◌, inl, inr, Bool, true, false, cond, leb, pos, List, [], ◌∷◌, ◌++◌, length, take, drop, Option, Some, None, unwrap_or, slice_index, refl, sym, ap, ◌∙◌, subst, arith, one-add, append_assoc, eqb}
+use Rattle.std.specs.Char.{is_ascii_digit}
 use Rattle.std.specs.List.{prefix_len, AllPass, Contains}
 use Rattle.std.proofs.lemmas.Bool.Decides.{nat_tests}
-use Rattle.std.proofs.lemmas.Grind.{common_steps}
 use Rattle.std.proofs.lemmas.List.{take-append-drop}
-use Rattle.std.proofs.lemmas.List.Sums.{prefix_len-le-length, prefix_len_passes}
-use Rattle.numerals.specs.Numeral.{text_value, IsDigitText, AllBelow}
+use Rattle.std.proofs.lemmas.List.Sums.{prefix_len_passes}
+use Rattle.numerals.specs.Numeral.{text_value}
 use Rattle.sprintf.specs.declared.parser.ConversionSpecifier.{ConversionSpecifier}
 use Rattle.sprintf.specs.declared.parser.ConversionType.{ConversionType}
 use Rattle.sprintf.specs.declared.parser.NumericParam.{NumericParam}
 use Rattle.sprintf.specs.declared.parser.NumericParam.TheVariants.{Literal, FromArgument}
-use Rattle.sprintf.specs.Grammar.{has, is_flag, IsCount, IsWidth, IsPrecision, no_width, star_width, digits_width, no_precision, bare_precision, star_precision, digits_precision, length_modifiers, letters_of, default_precision, IsField}
+use Rattle.sprintf.specs.Grammar.{has, is_flag, IsCount, IsWidth, IsPrecision, no_width, star_width, digits_width, no_precision, bare_precision, star_precision, digits_precision, length_modifiers, letters_of, IsField}
 use Rattle.sprintf.specs.Reading.{read_field, read_param, read_precision, read_count, written, read_letter, read_as, then_read, skip_one, behind, conversion_of, conversion_among, all_conversions, precision_or_default, field_with}
 use Rattle.sprintf.proofs.Digits.{all_below}
 use Rattle.sprintf.proofs.Runs.{prefix_len-take}
@@ -176,9 +175,22 @@ module _ (flags w p m : List ℕ) (letter : ℕ) (t : ConversionType) (width : N
   spelled_from : AllPass is_flag flags → IsWidth w width → IsPrecision t p (precision_or_default o t) → (m ≡ []) ⊎ Contains length_modifiers m → has (letters_of t) letter ≡ true → IsField (37 ∷ body) (field_with flags width o letter t)
   unfolding body
   spelled_from all a b c d = record {
-    flags = flags; width = w; precision = p; modifier = m; letter = letter; whole = refl;
-    only_flags = all; alt_form = refl; zero_pad = refl; left_adj = refl; space_sign = refl; force_sign = refl;
-    is_width = a; is_precision = b; is_modifier = c; is_letter = d;
+    flags = flags;
+    width = w;
+    precision = p;
+    modifier = m;
+    letter = letter;
+    whole = refl;
+    only_flags = all;
+    alt_form = refl;
+    zero_pad = refl;
+    left_adj = refl;
+    space_sign = refl;
+    force_sign = refl;
+    is_width = a;
+    is_precision = b;
+    is_modifier = c;
+    is_letter = d;
   }
 
 field_is : (text left body : List ℕ) (f g : ConversionSpecifier) → text ≡ body ++ left → f ≡ g → IsField (37 ∷ body) g → ReadsField text f left

@@ -1,12 +1,12 @@
 -- A text has one list of elements, so one value.
-use Rattle.std.proofs.Common.{◌≡◌, ℕ, ◌<◌, List, [], ◌∷◌, ◌++◌, length, Some, refl, sym, ap, ◌∙◌, subst, arith, Bor, Result, Ok, Err, length-append}
+use Rattle.std.proofs.Common.{◌≡◌, ℕ, ◌<◌, List, [], ◌∷◌, ◌++◌, length, refl, sym, ap, ◌∙◌, subst, arith, Bor, Result, Ok, Err, length-append}
 use Rattle.std.specs.List.{AllZip}
 use Rattle.std.proofs.lemmas.List.{append-nil}
 use Rattle.sprintf.specs.declared.PrintfError.{PrintfError}
 use Rattle.sprintf.specs.declared.parser.ConversionSpecifier.{ConversionSpecifier}
 use Rattle.sprintf.specs.declared.parser.FormatElement.{FormatElement}
 use Rattle.sprintf.specs.declared.parser.FormatElement.TheVariants.{Verbatim, Format}
-use Rattle.sprintf.specs.Grammar.{IsField, Spells, AreApart, IsFormat, IsSameElement}
+use Rattle.sprintf.specs.Grammar.{IsField, AreApart, IsSameElement}
 use Rattle.sprintf.specs.Reading.{read_field}
 use Rattle.sprintf.specs.Laws.{HasOneElementList, HasOneValue}
 use Rattle.sprintf.specs.Meaning.{Meaning}

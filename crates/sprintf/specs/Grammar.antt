@@ -1,5 +1,5 @@
 -- The grammar of printf formats: which elements a text spells.
-use Rattle.std.specs.Prelude.{◌≡◌, ◌≢◌, ℕ, ◌≤◌, ◌<◌, ◌⊎◌, ◌||◌, ◌==◌, ℤ, pos, Bool, true, List, [], ◌∷◌, ◌++◌, length, All, Contains, codes, slice_index, ⊤}
+use Rattle.std.specs.Prelude.{◌≡◌, ◌≢◌, ℕ, ◌≤◌, ◌<◌, ◌⊎◌, ◌||◌, ◌==◌, pos, Bool, true, List, [], ◌∷◌, ◌++◌, length, All, Contains, codes, slice_index, ⊤}
 use Rattle.std.specs.List.{concat, list_any, AllPass, AllZip}
 use Rattle.std.specs.Str.{byte}
 use Rattle.numerals.specs.Numeral.{IsDigitText, text_value}
@@ -71,14 +71,12 @@ pub record IsField (text : List ℕ) (f : ConversionSpecifier) : Type 0 where
   pub modifier : List ℕ
   pub letter : ℕ
   pub whole : text ≡ codes "%" ++ flags ++ width ++ precision ++ modifier ++ letter ∷ []
-
   pub only_flags : AllPass is_flag flags
   pub alt_form : f.alt_form ≡ (has flags (byte "#") || (letter == byte "p"))
   pub zero_pad : f.zero_pad ≡ has flags (byte "0")
   pub left_adj : f.left_adj ≡ has flags (byte "-")
   pub space_sign : f.space_sign ≡ has flags (byte " ")
   pub force_sign : f.force_sign ≡ has flags (byte "+")
-
   pub is_width : IsWidth width f.width
   pub is_precision : IsPrecision f.conversion_type precision f.precision
   pub is_modifier : (modifier ≡ []) ⊎ Contains length_modifiers modifier

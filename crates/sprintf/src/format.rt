@@ -57,20 +57,16 @@ fn word_fill(spec: &ConversionSpecifier, room: usize) -> Fill
     ensures zeros { result.zeros ≡ 0 }
     ensures trail { result.trail ≡ trail_of spec.now room }
 {
-    let (lead, trail) = if spec.left_adj {
-        (0, room)
-    } else {
-        (room, 0)
-    };
-    Fill { lead, zeros: 0, trail }
+    let (lead, trail) = if spec.left_adj { (0, room) } else { (room, 0) };
+    Fill {
+        lead,
+        zeros: 0,
+        trail,
+    }
 }
 
 /// Writes the ASCII character so many times.
-fn push_many(
-    out: &mut String,
-    filler: char,
-    count: usize,
-) -> std::result::Result<(), NoMemory>
+fn push_many(out: &mut String, filler: char, count: usize) -> std::result::Result<(), NoMemory>
     requires { filler < 128 }
     ensures { OnOk result (string_bytes out.new ≡ string_bytes out.old ++ replicate count filler) }
 {
@@ -380,7 +376,12 @@ impl Printf for i16 {
     ghost meaning = { signed_meaning 16 };
 
     fn format(&self, alloc: Global, spec: &ConversionSpecifier) -> Result<String> {
-        format_signed(alloc, spec, i64::from(*self), u64::from(self.cast_unsigned()))
+        format_signed(
+            alloc,
+            spec,
+            i64::from(*self),
+            u64::from(self.cast_unsigned()),
+        )
     }
 
     fn as_int(&self) -> Option<i32> {
@@ -394,7 +395,12 @@ impl Printf for i32 {
     ghost meaning = { signed_meaning 32 };
 
     fn format(&self, alloc: Global, spec: &ConversionSpecifier) -> Result<String> {
-        format_signed(alloc, spec, i64::from(*self), u64::from(self.cast_unsigned()))
+        format_signed(
+            alloc,
+            spec,
+            i64::from(*self),
+            u64::from(self.cast_unsigned()),
+        )
     }
 
     fn as_int(&self) -> Option<i32> {

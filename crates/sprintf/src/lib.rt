@@ -133,7 +133,8 @@ fn print_value<'p, P: Printf>(
 {
     let (first, rest) = args.split_first().ok_or(PrintfError::NotEnoughArgs)?;
     let text = first.format(alloc, spec)?;
-    out.push_str(text.as_str()).map_err(|_| PrintfError::NoMemory)?;
+    out.push_str(text.as_str())
+        .map_err(|_| PrintfError::NoMemory)?;
     Ok(rest)
 }
 
@@ -151,3 +152,6 @@ macro_rules! sprintf {
         $crate::vsprintf($alloc, $fmt, &[$($crate::Arg::from($arg)),+])
     };
 }
+
+#[cfg(test)]
+mod tests;

@@ -105,10 +105,7 @@ pub fn parse_format_string(alloc: Global, fmt: &str) -> Result<Vec<FormatElement
     Ok(elements)
 }
 
-fn push_element<'a>(
-    elements: &mut Vec<FormatElement<'a>>,
-    element: FormatElement<'a>,
-) -> Result<()>
+fn push_element<'a>(elements: &mut Vec<FormatElement<'a>>, element: FormatElement<'a>) -> Result<()>
     ensures ok { OnOk result (elements.new.items ≡ elements.old.items ++ element.entry ∷ []) }
     ensures err { IfErr result (λ e. e ≡ PrintfError.NoMemory) }
 {

@@ -1,4 +1,4 @@
-use Rattle.std.proofs.Common.{◌≡◌, ℕ, take, ap, sym, ◌∙◌}
+use Rattle.std.proofs.Common.{take, ap, sym, ◌∙◌}
 use Rattle.sprintf.proofs.FieldText.{cut_is}
 use Rattle.sprintf.proofs.format.cut_to.Goals as goal
 

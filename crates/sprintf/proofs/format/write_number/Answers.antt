@@ -1,9 +1,8 @@
-use Rattle.std.proofs.Common.{◌≡◌, ◌++◌, ◌+◌, ◌-◌, ◌<◌, ◌≤◌, ◌^◌, ℕ, List, [], length, replicate, string_bytes, if◌then◌else◌, false, refl, rules, arith, ap, sym, ◌∙◌, Fits, w64}
-use Rattle.std.proofs.lemmas.Grind.{common_steps}
+use Rattle.std.proofs.Common.{◌≡◌, ◌++◌, ◌+◌, ◌-◌, ◌<◌, ◌^◌, [], length, replicate, string_bytes, false, refl, rules, arith, sym, ◌∙◌}
 use Rattle.numerals.specs.Numeral.{base_of, numeral}
 use Rattle.numerals.proofs.Reading.{base_of-le}
 use Rattle.numerals.proofs.Steps.{length-numeral-max}
-use Rattle.sprintf.specs.Field.{prefix_of, digits_of, number_parts, text_of}
+use Rattle.sprintf.specs.Field.{digits_of}
 use Rattle.sprintf.proofs.FieldText.{number_written, length-numeral_case}
 use Rattle.sprintf.proofs.format.write_number.Goals as goal
 

@@ -1,7 +1,7 @@
-use Rattle.std.proofs.Common.{arith, ◌<◌, ◌≤◌, length, map}
+use Rattle.std.proofs.Common.{arith, ◌<◌, length, map}
 use Rattle.std.proofs.lemmas.Grind.{common_steps}
 use Rattle.std.specs.Char.{digit_value}
-use Rattle.numerals.specs.Numeral.{text_value, AllBelow}
+use Rattle.numerals.specs.Numeral.{AllBelow}
 use Rattle.sprintf.proofs.Digits.{all_below}
 use Rattle.sprintf.proofs.parser.count_of.Goals as goal
 

@@ -2,7 +2,7 @@ use Rattle.std.proofs.Common.{arith, get_or}
 use Rattle.std.proofs.lemmas.Bool.Decides.{nat_tests}
 use Rattle.std.proofs.lemmas.Grind.{common_steps}
 use Rattle.std.proofs.lemmas.List.Sums.{prefix_len_is}
-use Rattle.std.proofs.Common.{sym, ◌≡◌, false, ℕ}
+use Rattle.std.proofs.Common.{sym, ◌≡◌, false}
 use Rattle.std.specs.Char.{is_ascii_digit}
 use Rattle.sprintf.proofs.parser.digits_len.Goals as goal
 

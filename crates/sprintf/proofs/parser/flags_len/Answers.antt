@@ -1,6 +1,4 @@
-use Rattle.std.proofs.Common.{arith, get_or, sym, ◌≡◌, false, ap, refl, ◌∙◌, ℕ}
-use Rattle.std.proofs.lemmas.Bool.Decides.{nat_tests}
-use Rattle.std.proofs.lemmas.Grind.{common_steps}
+use Rattle.std.proofs.Common.{arith, get_or, sym, ◌≡◌, false}
 use Rattle.std.proofs.lemmas.List.Sums.{prefix_len_is}
 use Rattle.sprintf.specs.Grammar.{is_flag}
 use Rattle.sprintf.proofs.parser.flags_len.Goals as goal

@@ -1,9 +1,7 @@
-use Rattle.std.proofs.Common.{◌≡◌, ◌≢◌, ◌++◌, ◌∷◌, [], ℕ, ◌<◌, List, length, get_or, Some, None, arith, subst, sym, inl, refl, ◌∙◌, ap, append_assoc, rules}
+use Rattle.std.proofs.Common.{◌≡◌, ◌++◌, ◌∷◌, [], ℕ, List, arith, subst, sym, inl, refl, append_assoc, rules}
 use Rattle.std.proofs.lemmas.Str.Pattern.{split_parts}
-use Rattle.std.proofs.lemmas.List.{append-nil}
 use Rattle.sprintf.specs.declared.parser.FormatElement.{FormatElement}
-use Rattle.sprintf.specs.declared.parser.FormatElement.TheVariants.{Format}
-use Rattle.sprintf.specs.Grammar.{IsFormat, IsNoFormat}
+use Rattle.sprintf.specs.Grammar.{IsFormat}
 use Rattle.sprintf.specs.Reading.{verbatim}
 use Rattle.sprintf.proofs.Formats.{step_sound, step_complete, step_fails, end_sound, plain_at, shorter}
 use Rattle.sprintf.proofs.parser.parse_format_string.Goals as goal
@@ -29,10 +27,11 @@ loop-text-preserved c =
     let parts = rw c.in-Some.is at (split_parts 37 c.loop-text.rest.now c.split_once.result c.split_once.ensures.cases (omega arith)) in
     let plain = plain_at c.in-Some.text.now parts.1 in
     let sound = step_sound c.loop-text.rest.now c.in-Some.text c.in-Some.field.now _ _ parts.0 plain c.in-Some-take_conversion_specifier.ensures.some in
-    let complete = step_complete c.loop-text.rest.now c.in-Some.text.now c.in-Some.field.now _ _ parts.0 plain c.in-Some-take_conversion_specifier.ensures.some in
-    (search rules,
+    let complete = step_complete c.loop-text.rest.now c.in-Some.text.now c.in-Some.field.now _ _ parts.0 plain c.in-Some-take_conversion_specifier.ensures.some in (
+      search rules,
       λ more k. so_far c.args.fmt.now c.loop-text.elements.items _ _ more (verbatim c.in-Some.text) _ c.in_ok-push_text.ensures.ok c.in_ok-push_element.ensures.ok (c.loop-text.invariant.1 _ (sound more k)),
-      λ es k. let rest = c.loop-text.invariant.2 es k in complete rest.0 rest.1)
+      λ es k. let rest = c.loop-text.invariant.2 es k in complete rest.0 rest.1,
+    )
 
 pub returns-clause-ok : goal.returns-clause-ok
 returns-clause-ok c =

@@ -3,7 +3,6 @@ use denote.Text.{Utf8}
 use denote.Shadow.{shadow}
 use Rattle.sprintf.specs.declared.parser.FormatElement.{FormatElement}
 use Rattle.sprintf.specs.Grammar.{IsFormat}
-use Rattle.sprintf.proofs.Formats.{step_sound, step_complete, step_fails, end_sound}
 use Rattle.sprintf.proofs.parser.parse_format_string.Given as goal
 
 abbrev pub invariant-loop-text : goal.invariant-loop-text

@@ -1,6 +1,5 @@
-use Rattle.std.proofs.Common.{◌≡◌, ◌++◌, ℕ, List, take, drop, Option, Some, None, IsNone, encode_utf8, refl, sym, ◌∙◌, arith, rules}
+use Rattle.std.proofs.Common.{◌≡◌, ℕ, List, take, drop, Option, Some, None, refl, sym, ◌∙◌}
 use Rattle.std.specs.List.{prefix_len}
-use Rattle.sprintf.specs.declared.parser.ConversionType.{ConversionType}
 use Rattle.sprintf.specs.declared.parser.NumericParam.{NumericParam}
 use Rattle.sprintf.specs.Reading.{read_field, read_param, read_precision, read_letter, conversion_of, skip_one, field_with}
 use Rattle.sprintf.specs.Grammar.{is_flag, length_modifiers}

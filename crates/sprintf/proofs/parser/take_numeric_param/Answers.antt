@@ -1,13 +1,12 @@
-use Rattle.std.proofs.Common.{◌≡◌, ◌≢◌, ℕ, ◌∷◌, [], List, take, drop, Some, None, arith, refl, sym, ◌∙◌, length, ◌≤◌, ℤ, pos}
+use Rattle.std.proofs.Common.{◌≡◌, ◌≢◌, ℕ, ◌∷◌, [], List, take, drop, Some, arith, refl, ◌≤◌, ℤ, pos}
 use Rattle.std.proofs.lemmas.Bool.Decides.{nat_tests}
-use Rattle.std.proofs.lemmas.Grind.{common_steps}
 use Rattle.std.proofs.lemmas.Str.Pattern.{strip_prefix_char}
 use Rattle.std.specs.Char.{is_ascii_digit}
 use Rattle.std.specs.List.{prefix_len}
 use mir.Syntax.{w32}
 use mir.Val.{to_z, of_z}
 use Rattle.numerals.specs.Numeral.{text_value}
-use Rattle.std.proofs.lemmas.Int.{to_z-of_z, ints}
+use Rattle.std.proofs.lemmas.Int.{ints}
 use Rattle.sprintf.specs.declared.parser.NumericParam.TheVariants.{Literal}
 use Rattle.sprintf.specs.Reading.{read_param, read_count}
 use Rattle.sprintf.proofs.Runs.{prefix_len-take, differs}
