@@ -1,0 +1,96 @@
+-- The tokens that a format takes from an input: each directive takes the longest front of its shape.
+use Rattle.std.specs.Prelude.{◌≡◌, ◌≢◌, ℕ, ◌<◌, ◌≤◌, ◌==◌, ◌&&◌, ◌⊎◌, Bool, true, false, if◌then◌else◌, List, [], ◌∷◌, ◌++◌, length, drop, slice_index, Option, None, Some, ⊤}
+use Rattle.std.specs.List.{AllByRecursion}
+use Rattle.std.specs.Char.{digit_value}
+use Rattle.std.specs.Option.{option_map}
+use Rattle.std.specs.Str.Parse.{AllDigits, without_leading_plus}
+use Rattle.scan_fmt.specs.Sets.{is_in_set}
+use Rattle.scan_fmt.specs.Directives.{is_blank, after_blanks, Shape, Until, Solid, Decimal, Hexadecimal, Float, Among, AtEnd, Directive, Exactly, Field, Cuts}
+
+-- one sign or none, then digits
+abbrev pub IsSigned : List ℕ → Type 0
+IsSigned [] = ⊤
+IsSigned (c ∷ cs) = ((c ≡ 43) ⊎ ((c ≡ 45) ⊎ (digit_value c < 10))) × AllDigits 10 cs
+
+-- nothing, or this character and then such a text
+abbrev pub Optionally : ℕ → (List ℕ → Type 0) → List ℕ → Type 0
+Optionally c P [] = ⊤
+Optionally c P (x ∷ xs) = (x ≡ c) × P xs
+
+-- a `0` or none, an `x` or none, then hexadecimal digits
+abbrev pub IsPrefixed : List ℕ → Type 0
+IsPrefixed text = (zero : List ℕ) × (x : List ℕ) × (ds : List ℕ) × (text ≡ zero ++ (x ++ ds)) × Optionally 48 (λ t. t ≡ []) zero × Optionally 120 (λ t. t ≡ []) x × AllDigits 16 ds
+
+-- a decimal number; then a point and digits, or neither; then an `e` and another decimal number, or neither
+abbrev pub IsFloat : List ℕ → Type 0
+IsFloat text = (whole : List ℕ) × (fraction : List ℕ) × (exponent : List ℕ) × (text ≡ whole ++ (fraction ++ exponent)) × IsSigned whole × Optionally 46 (AllDigits 10) fraction × Optionally 101 IsSigned exponent
+
+-- at most so many characters
+abbrev pub Within : Option ℕ → List ℕ → Type 0
+Within None text = ⊤
+Within (Some n) text = length text ≤ n
+
+-- what a field may take, be it empty
+abbrev pub MayTake : Shape → List ℕ → Type 0
+MayTake (Until stop) text = AllByRecursion (λ c. (is_blank c ≡ false) × (Some c ≢ stop)) text
+MayTake Solid text = AllByRecursion (λ c. is_blank c ≡ false) text
+MayTake (Decimal limit) text = IsSigned text × Within limit text
+MayTake (Hexadecimal limit) text = IsPrefixed text × Within limit text
+MayTake (Float limit) text = IsFloat text × Within limit text
+MayTake (Among inverted listing) text = AllByRecursion (λ c. is_in_set inverted listing c ≡ true) text
+MayTake AtEnd text = ⊥
+
+-- the longest front of the text with this property, and the rest
+pub record IsLongest (P : List ℕ → Type 0) (text taken rest : List ℕ) : Type 0 where
+  pub whole : text ≡ taken ++ rest
+  pub shape : P taken
+  pub longest : (other more : List ℕ) → text ≡ other ++ more → P other → length other ≤ length taken
+
+abbrev pub begins_0x : List ℕ → Bool
+begins_0x text = (slice_index text 0 == 48) && (slice_index text 1 == 120)
+
+-- the token of what was taken: a number drops its plus sign, a hexadecimal one its `0x`
+abbrev pub token_of : Shape → List ℕ → List ℕ
+token_of (Decimal limit) taken = without_leading_plus taken
+token_of (Float limit) taken = without_leading_plus taken
+token_of (Hexadecimal limit) taken = if begins_0x taken then drop 2 taken else taken
+token_of shape taken = taken
+
+-- the tokens with one in front where it is stored
+abbrev pub with_token : Bool → List ℕ → List (List ℕ) → List (List ℕ)
+with_token true token tokens = token ∷ tokens
+with_token false token tokens = tokens
+
+-- one directive at a place of the input, where `next` says what the others give from where this one leaves it: nothing where a character differs or input is left at `{e}`, no more tokens where the input has ended
+abbrev pub Step : Directive → List ℕ → (List ℕ → Option (List (List ℕ)) → Type 0) → Option (List (List ℕ)) → Type 0
+Step d [] next out = out ≡ Some []
+Step (Exactly c) (x ∷ xs) next out = ((c ≡ x) × next xs out) ⊎ ((c ≢ x) × (out ≡ None))
+Step (Field stored AtEnd) (x ∷ xs) next out = out ≡ None
+Step (Field stored shape) (x ∷ xs) next out = (taken : List ℕ) × (rest : List ℕ) × (more : Option (List (List ℕ)))
+    × IsLongest (MayTake shape) (x ∷ xs) taken rest × next rest more × (out ≡ option_map (with_token stored (token_of shape taken)) more)
+
+-- the directives in turn, each after the white space in front of it
+abbrev pub Takes : List Directive → List ℕ → Option (List (List ℕ)) → Type 0
+Takes [] input out = out ≡ Some []
+Takes (d ∷ ds) input out = Step d (after_blanks input) (Takes ds) out
+
+-- one empty token where the input didn't fit
+abbrev pub answer : Option (List (List ℕ)) → List (List ℕ)
+answer None = [] ∷ []
+answer (Some tokens) = tokens
+
+-- these are the tokens of the format over the input
+pub record Scanned (input format : List ℕ) (tokens : List (List ℕ)) : Type 0 where
+  pub directives : List Directive
+  pub out : Option (List (List ℕ))
+  pub cut : Cuts format directives
+  pub takes : Takes directives input out
+  pub tokens_are : tokens ≡ answer out
+
+-- over one input, one format gives one list of tokens
+abbrev pub OneAnswer : Type 0
+OneAnswer = (input format : List ℕ) (a b : List (List ℕ)) → Scanned input format a → Scanned input format b → a ≡ b
+
+-- each format gives a list of tokens over each input
+abbrev pub SomeAnswer : Type 0
+SomeAnswer = (input format : List ℕ) → (tokens : List (List ℕ)) × Scanned input format tokens
