@@ -17,7 +17,7 @@ abbrev pub first : List ℕ → Option ℕ
 first [] = None
 first (c ∷ cs) = Some c
 
--- what a field takes: up to white space or a stop character, up to white space, a number with a limit on its length, characters of a set, or nothing and the input must be at its end
+-- what a field takes: a run up to white space or a stop character, a run up to white space, a number with a limit on its length, a run of characters of a set (inverted or not, and its listing), or nothing, and the input must be at its end
 pub data Shape : Type 0 where
   Until : Option ℕ → Shape
   Solid : Shape
@@ -25,12 +25,12 @@ pub data Shape : Type 0 where
   Among : Bool → List ℕ → Shape
   AtEnd : Shape
 
--- a character that the input must have, or a field and whether its token is stored
+-- a character that the input must have, or a field, and whether its token is stored
 pub data Directive : Type 0 where
   Exactly : ℕ → Directive
   Field : Bool → Shape → Directive
 
--- a star says that the token isn't stored
+-- a star keeps the token from being stored
 abbrev pub star : Bool → List ℕ
 star true = []
 star false = 42 ∷ []
@@ -42,33 +42,33 @@ caret false = []
 
 -- the limit that these digits give: none of them, 0 and what no usize holds are no limit
 abbrev pub limit_of : List ℕ → Option ℕ
-limit_of ds = let n = digits_value 10 ds in if n == 0 then None else (if nat_lt n (2 ^ 64) then Some n else None)
+limit_of ds = if digits_value 10 ds == 0 then None else (if nat_lt (digits_value 10 ds) (2 ^ 64) then Some (digits_value 10 ds) else None)
 
--- the letter of a field or its set, and the closing brace; only numbers have a limit
-abbrev pub Names : Shape → Option ℕ → List ℕ → Type 0
-Names (Until stop) n text = ⊥
-Names Solid n text = text ≡ 115 ∷ 125 ∷ []
-Names (Decimal limit) n text = (text ≡ 100 ∷ 125 ∷ []) × (limit ≡ n)
-Names (Hexadecimal limit) n text = (text ≡ 120 ∷ 125 ∷ []) × (limit ≡ n)
-Names (Float limit) n text = (text ≡ 102 ∷ 125 ∷ []) × (limit ≡ n)
-Names (Among inverted listing) n text = (text ≡ 91 ∷ (caret inverted ++ (listing ++ 93 ∷ 125 ∷ []))) × IsListing inverted listing
-Names AtEnd n text = text ≡ 101 ∷ 125 ∷ []
+-- the text is the field's letter or set, the closing brace, and then the rest; only numbers have a limit
+abbrev pub Names : Shape → Option ℕ → List ℕ → List ℕ → Type 0
+Names (Until stop) n text rest = ⊥
+Names Solid n text rest = text ≡ 115 ∷ 125 ∷ rest
+Names (Decimal limit) n text rest = (text ≡ 100 ∷ 125 ∷ rest) × (limit ≡ n)
+Names (Hexadecimal limit) n text rest = (text ≡ 120 ∷ 125 ∷ rest) × (limit ≡ n)
+Names (Float limit) n text rest = (text ≡ 102 ∷ 125 ∷ rest) × (limit ≡ n)
+Names (Among inverted listing) n text rest = (text ≡ 91 ∷ (caret inverted ++ (listing ++ 93 ∷ 125 ∷ rest))) × IsListing inverted listing
+Names AtEnd n text rest = text ≡ 101 ∷ 125 ∷ rest
 
--- what stands in a field after its star: the brace alone, whose stop character is the one that follows it, or digits and a name
+-- what follows a field's star: the brace alone, and then the stop character is the one after it, whichever it is; or digits and a name
 abbrev pub SpellsShape : Shape → List ℕ → List ℕ → Type 0
-SpellsShape (Until stop) text rest = (text ≡ 125 ∷ []) × (stop ≡ first rest)
-SpellsShape shape text rest = (ds : List ℕ) × (name : List ℕ) × (text ≡ ds ++ name) × AllDigits 10 ds × Names shape (limit_of ds) name
+SpellsShape (Until stop) text rest = (text ≡ 125 ∷ rest) × (stop ≡ first rest)
+SpellsShape shape text rest = (ds : List ℕ) × (name : List ℕ) × (text ≡ ds ++ name) × AllDigits 10 ds × Names shape (limit_of ds) name rest
 
--- the text spells the directive, where `rest` follows it: a character but a brace for itself, `{{`, a character after `}`, or a field
+-- the format spells the directive and then the rest: a character but a brace stands for itself, `{{` for an opening brace, `}` and any character for that one
 abbrev pub Spells : Directive → List ℕ → List ℕ → Type 0
-Spells (Exactly c) text rest = ((text ≡ c ∷ []) × (c ≢ 123) × (c ≢ 125)) ⊎ (((text ≡ 123 ∷ 123 ∷ []) × (c ≡ 123)) ⊎ (text ≡ 125 ∷ c ∷ []))
-Spells (Field stored shape) text rest = (body : List ℕ) × (text ≡ 123 ∷ (star stored ++ body)) × SpellsShape shape body rest
+Spells (Exactly c) format rest = ((format ≡ c ∷ rest) × (c ≢ 123) × (c ≢ 125)) ⊎ (((format ≡ 123 ∷ 123 ∷ rest) × (c ≡ 123)) ⊎ (format ≡ 125 ∷ c ∷ rest))
+Spells (Field stored shape) format rest = (body : List ℕ) × (format ≡ 123 ∷ (star stored ++ body)) × SpellsShape shape body rest
 
--- no directive stands in front of the text: it has ended, it is a lone `}`, or its field is malformed
+-- no directive stands in front: the format has ended, it is a lone `}`, or its field is malformed
 abbrev pub NoDirective : List ℕ → Type 0
-NoDirective format = (d : Directive) (text rest : List ℕ) → format ≡ text ++ rest → Spells d text rest → ⊥
+NoDirective format = (d : Directive) (rest : List ℕ) → Spells d format rest → ⊥
 
--- the format is these directives with white space between, up to where none stands in front
+-- the format is these directives, each after white space, up to where none stands in front
 abbrev pub Cuts : List ℕ → List Directive → Type 0
 Cuts format [] = NoDirective (after_blanks format)
-Cuts format (d ∷ ds) = (text : List ℕ) × (rest : List ℕ) × (after_blanks format ≡ text ++ rest) × Spells d text rest × Cuts rest ds
+Cuts format (d ∷ ds) = (rest : List ℕ) × Spells d (after_blanks format) rest × Cuts rest ds

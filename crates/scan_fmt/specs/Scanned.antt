@@ -5,7 +5,7 @@ use Rattle.std.specs.Char.{digit_value}
 use Rattle.std.specs.Option.{option_map}
 use Rattle.std.specs.Str.Parse.{AllDigits, without_leading_plus}
 use Rattle.scan_fmt.specs.Sets.{is_in_set}
-use Rattle.scan_fmt.specs.Directives.{is_blank, after_blanks, Shape, Until, Solid, Decimal, Hexadecimal, Float, Among, AtEnd, Directive, Exactly, Field, Cuts}
+use Rattle.scan_fmt.specs.Directives.{is_blank, after_blanks, first, Shape, Until, Solid, Decimal, Hexadecimal, Float, Among, AtEnd, Directive, Exactly, Field, Cuts}
 
 -- one sign or none, then digits
 abbrev pub IsSigned : List ℕ → Type 0
@@ -56,23 +56,28 @@ token_of (Float limit) taken = without_leading_plus taken
 token_of (Hexadecimal limit) taken = if begins_0x taken then drop 2 taken else taken
 token_of shape taken = taken
 
--- the tokens with one in front where it is stored
-abbrev pub with_token : Bool → List ℕ → List (List ℕ) → List (List ℕ)
-with_token true token tokens = token ∷ tokens
-with_token false token tokens = tokens
+-- the tokens with this one in front, if it is stored
+abbrev pub with_token : Option (List ℕ) → List (List ℕ) → List (List ℕ)
+with_token None tokens = tokens
+with_token (Some token) tokens = token ∷ tokens
 
--- one directive at a place of the input, where `next` says what the others give from where this one leaves it: nothing where a character differs or input is left at `{e}`, no more tokens where the input has ended
-abbrev pub Step : Directive → List ℕ → (List ℕ → Option (List (List ℕ)) → Type 0) → Option (List (List ℕ)) → Type 0
-Step d [] next out = out ≡ Some []
-Step (Exactly c) (x ∷ xs) next out = ((c ≡ x) × next xs out) ⊎ ((c ≢ x) × (out ≡ None))
-Step (Field stored AtEnd) (x ∷ xs) next out = out ≡ None
-Step (Field stored shape) (x ∷ xs) next out = (taken : List ℕ) × (rest : List ℕ) × (more : Option (List (List ℕ)))
-    × IsLongest (MayTake shape) (x ∷ xs) taken rest × next rest more × (out ≡ option_map (with_token stored (token_of shape taken)) more)
+-- the directive takes the front of the input and leaves the rest: a literal its character, a field the longest front of its shape, and that gives a token unless there is a star
+abbrev pub Passes : Directive → List ℕ → Option (List ℕ) → List ℕ → Type 0
+Passes (Exactly c) input token rest = (input ≡ c ∷ rest) × (token ≡ None)
+Passes (Field stored AtEnd) input token rest = ⊥
+Passes (Field stored shape) input token rest = (taken : List ℕ) × IsLongest (MayTake shape) input taken rest × (token ≡ (if stored then Some (token_of shape taken) else None))
 
--- the directives in turn, each after the white space in front of it
+-- the input doesn't fit: another character stands in front, or input is left at `{e}`
+abbrev pub Refuses : Directive → List ℕ → Type 0
+Refuses (Exactly c) input = first input ≢ Some c
+Refuses (Field stored AtEnd) input = ⊤
+Refuses (Field stored shape) input = ⊥
+
+-- what the directives give over the input, each after white space: no more tokens where the input has ended, nothing where it doesn't fit
 abbrev pub Takes : List Directive → List ℕ → Option (List (List ℕ)) → Type 0
 Takes [] input out = out ≡ Some []
-Takes (d ∷ ds) input out = Step d (after_blanks input) (Takes ds) out
+Takes (d ∷ ds) input out = ((after_blanks input ≡ []) × (out ≡ Some [])) ⊎ ((after_blanks input ≢ []) × ((Refuses d (after_blanks input) × (out ≡ None)) ⊎
+    ((token : Option (List ℕ)) × (rest : List ℕ) × (more : Option (List (List ℕ))) × Passes d (after_blanks input) token rest × Takes ds rest more × (out ≡ option_map (with_token token) more))))
 
 -- one empty token where the input didn't fit
 abbrev pub answer : Option (List (List ℕ)) → List (List ℕ)
