@@ -1,3 +1,4 @@
 pub mod Directives
+pub mod Parts
 pub mod Scanned
 pub mod Sets

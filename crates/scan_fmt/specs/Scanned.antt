@@ -30,15 +30,19 @@ abbrev pub Within : Option ℕ → List ℕ → Type 0
 Within None text = ⊤
 Within (Some n) text = length text ≤ n
 
--- what a field may take, be it empty
+-- a character that may stand in a run
+abbrev pub Suits : Shape → ℕ → Type 0
+Suits (Until stop) c = (is_blank c ≡ false) × (Some c ≢ stop)
+Suits Solid c = is_blank c ≡ false
+Suits (Among inverted listing) c = is_in_set inverted listing c ≡ true
+Suits shape c = ⊥
+
+-- what a field may take, be it empty: a number within its limit, or a run
 abbrev pub MayTake : Shape → List ℕ → Type 0
-MayTake (Until stop) text = AllByRecursion (λ c. (is_blank c ≡ false) × (Some c ≢ stop)) text
-MayTake Solid text = AllByRecursion (λ c. is_blank c ≡ false) text
 MayTake (Decimal limit) text = IsSigned text × Within limit text
 MayTake (Hexadecimal limit) text = IsPrefixed text × Within limit text
 MayTake (Float limit) text = IsFloat text × Within limit text
-MayTake (Among inverted listing) text = AllByRecursion (λ c. is_in_set inverted listing c ≡ true) text
-MayTake AtEnd text = ⊥
+MayTake shape text = AllByRecursion (Suits shape) text
 
 -- the longest front of the text with this property, and the rest
 pub record IsLongest (P : List ℕ → Type 0) (text taken rest : List ℕ) : Type 0 where
@@ -46,14 +50,19 @@ pub record IsLongest (P : List ℕ → Type 0) (text taken rest : List ℕ) : Ty
   pub shape : P taken
   pub longest : (other more : List ℕ) → text ≡ other ++ more → P other → length other ≤ length taken
 
+-- the text begins with `0x`
 abbrev pub begins_0x : List ℕ → Bool
 begins_0x text = (slice_index text 0 == 48) && (slice_index text 1 == 120)
+
+-- the text without a `0x` in front
+abbrev pub without_0x : List ℕ → List ℕ
+without_0x text = if begins_0x text then drop 2 text else text
 
 -- the token of what was taken: a number drops its plus sign, a hexadecimal one its `0x`
 abbrev pub token_of : Shape → List ℕ → List ℕ
 token_of (Decimal limit) taken = without_leading_plus taken
 token_of (Float limit) taken = without_leading_plus taken
-token_of (Hexadecimal limit) taken = if begins_0x taken then drop 2 taken else taken
+token_of (Hexadecimal limit) taken = without_0x taken
 token_of shape taken = taken
 
 -- the tokens with this one in front, if it is stored

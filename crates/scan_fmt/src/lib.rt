@@ -1,4 +1,8 @@
 //! Reads tokens from a text by a format of literals and fields.
 #![tactic(auto)]
 
+mod directive;
+mod field;
+mod number;
+mod text;
 pub mod parse;
