@@ -4,6 +4,7 @@ use Rattle.std.specs.List.{AllByRecursion}
 use Rattle.std.specs.Char.{digit_value}
 use Rattle.std.specs.Str.Parse.{AllDigits}
 use Rattle.std.proofs.lemmas.Bool.{and_parts, eqb-true}
+use Rattle.std.proofs.lemmas.Bool.Decides.{nat_tests}
 use Rattle.std.proofs.lemmas.List.{take-append-drop, drop-drop, get_or-drop}
 use Rattle.scan_fmt.specs.Directives.{first}
 use Rattle.scan_fmt.specs.Scanned.{IsLongest, Optionally, IsSigned, IsPrefixed, IsFloat, begins_0x}
@@ -130,15 +131,15 @@ prefixed_bare text a r no_0x no_x long = longest_same (AllDigits 16) IsPrefixed 
   back other more e (with_0x ds is each) = absurd (begins_0x_not text (ds ++ more) no_0x (e ∙ ap (λ (t : List ℕ). t ++ more) is))
 
 -- the characters of a text with a property of each
-each_at : (P : ℕ → Type 0) (c : ℕ) (xs more : List ℕ) → AllByRecursion P (xs ++ c ∷ more) → P c
+pub each_at : (P : ℕ → Type 0) (c : ℕ) (xs more : List ℕ) → AllByRecursion P (xs ++ c ∷ more) → P c
 each_at P c [] more h = h.0
 each_at P c (x ∷ xs) more h = each_at P c xs more h.1
 
-each_append : (P : ℕ → Type 0) (xs ys : List ℕ) → AllByRecursion P xs → AllByRecursion P ys → AllByRecursion P (xs ++ ys)
+pub each_append : (P : ℕ → Type 0) (xs ys : List ℕ) → AllByRecursion P xs → AllByRecursion P ys → AllByRecursion P (xs ++ ys)
 each_append P [] ys h k = k
 each_append P (x ∷ xs) ys h k = (h.0, each_append P xs ys h.1 k)
 
-each_weaker : (P Q : ℕ → Type 0) (xs : List ℕ) → ((c : ℕ) → P c → Q c) → AllByRecursion P xs → AllByRecursion Q xs
+pub each_weaker : (P Q : ℕ → Type 0) (xs : List ℕ) → ((c : ℕ) → P c → Q c) → AllByRecursion P xs → AllByRecursion Q xs
 each_weaker P Q [] f h = tt
 each_weaker P Q (x ∷ xs) f h = (f x h.0, each_weaker P Q xs f h.1)
 
@@ -195,3 +196,39 @@ pub float : (text a r b s d u : List ℕ) → IsLongest IsSigned text a r → Is
 float text a r b s d u one two three =
     longest_then IsPointed (Optionally 101 IsSigned) IsFloat text (a ++ b) s d u (pointed text a r b s one two) three (a, b, d, append_assoc a b d, one.shape, two.shape, three.shape) float_parts
     (λ p more q c h k. e_not_point (subst IsPoint k.0 (each_at IsPoint c p more (pointed_each (p ++ c ∷ more) h))))
+
+digit_ascii : (c : ℕ) → digit_value c < 16 → c < 128
+digit_ascii c h = grind (arith, nat_tests)
+
+-- all of these are ASCII
+pub digits_ascii : (b : ℕ) (xs : List ℕ) → b ≤ 16 → AllDigits b xs → AllByRecursion (λ c. c < 128) xs
+digits_ascii b [] le h = tt
+digits_ascii b (x ∷ xs) le h = (digit_ascii x (omega (arith, h.0)), digits_ascii b xs le h.1)
+
+whole_ascii : (c : ℕ) → IsWhole c → c < 128
+whole_ascii c (inl h) = omega arith
+whole_ascii c (inr (inl h)) = omega arith
+whole_ascii c (inr (inr h)) = digit_ascii c (omega (arith, h))
+
+point_ascii : (c : ℕ) → IsPoint c → c < 128
+point_ascii c (inl h) = omega arith
+point_ascii c (inr h) = whole_ascii c h
+
+pub signed_ascii : (xs : List ℕ) → IsSigned xs → AllByRecursion (λ c. c < 128) xs
+signed_ascii xs h = each_weaker IsWhole (λ c. c < 128) xs whole_ascii (signed_each xs h)
+
+exponent_ascii : (xs : List ℕ) → Optionally 101 IsSigned xs → AllByRecursion (λ c. c < 128) xs
+exponent_ascii [] h = tt
+exponent_ascii (x ∷ xs) h = (omega (arith, h.0), signed_ascii xs h.1)
+
+pub float_ascii : (xs : List ℕ) → IsFloat xs → AllByRecursion (λ c. c < 128) xs
+float_ascii xs h =
+    let cut = float_parts xs h in
+    subst (AllByRecursion (λ c. c < 128)) (sym cut.2) (each_append (λ c. c < 128) cut.0 cut.1 (each_weaker IsPoint (λ c. c < 128) cut.0 point_ascii (pointed_each cut.0 cut.3)) (exponent_ascii cut.1 cut.4))
+
+pub prefixed_ascii : (xs : List ℕ) → IsPrefixed xs → AllByRecursion (λ c. c < 128) xs
+prefixed_ascii xs h = by_form (form_of xs h) where
+  by_form : Form xs → AllByRecursion (λ c. c < 128) xs
+  by_form (bare each) = digits_ascii 16 xs (omega arith) each
+  by_form (with_x ds e each) = subst (AllByRecursion (λ c. c < 128)) (sym e) (omega arith, digits_ascii 16 ds (omega arith) each)
+  by_form (with_0x ds e each) = subst (AllByRecursion (λ c. c < 128)) (sym e) (omega arith, (omega arith, digits_ascii 16 ds (omega arith) each))

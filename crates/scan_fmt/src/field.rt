@@ -1,5 +1,5 @@
 // What a directive takes from the front of an input.
-ghost use Rattle.std.specs.Prelude.{◌≡◌, ◌∷◌, ℕ, List, take, MatchOption, IfNone, IfSome, IsTrue, ◌↔◌};
+ghost use Rattle.std.specs.Prelude.{◌≡◌, ◌∷◌, ℕ, ◌<◌, List, length, take, MatchOption, IfNone, IfSome, IsTrue, ◌↔◌};
 ghost use Rattle.std.specs.List.{AllByRecursion};
 ghost use Rattle.std.specs.Option.{option_map};
 ghost use Rattle.std.specs.Str.{chars};
@@ -17,6 +17,7 @@ use crate::text::{before, is_blank, split_first, strip};
 fn range_end(text: &str) -> Option<(char, &str)>
     ensures none { IfNone result ((z : ℕ) (rest : List ℕ) → chars text.now ≡ 45 ∷ z ∷ rest → ⊥) }
     ensures some { IfSome result (λ p. chars text.now ≡ 45 ∷ p.0 ∷ chars p.1.now) }
+    ensures shorter { IfSome result (λ p. length p.1.now < length text.now) }
 {
     split_first(strip(text, '-')?)
 }
@@ -25,7 +26,7 @@ fn is_in_ranges(ranges: &str, c: char) -> bool
     ensures { result ≡ is_in_ranges (chars ranges.now) c }
 {
     let mut ranges = ranges;
-    'ranges: while let Some((low, rest)) = split_first(ranges) {
+    'listed: while let Some((low, rest)) = split_first(ranges) {
         if let Some((high, rest)) = range_end(rest) {
             if low <= c && c <= high {
                 return true;

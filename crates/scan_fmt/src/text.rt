@@ -19,6 +19,7 @@ pub fn split_first(text: &str) -> Option<(char, &str)>
 pub fn strip(text: &str, expected: char) -> Option<&str>
     ensures none { IfNone result ((rest : List ℕ) → chars text.now ≢ expected ∷ rest) }
     ensures some { IfSome result (λ rest. chars text.now ≡ expected ∷ chars rest.now) }
+    ensures shorter { IfSome result (λ rest. length rest.now < length text.now) }
 {
     let (first, rest) = split_first(text)?;
     if first == expected { Some(rest) } else { None }
