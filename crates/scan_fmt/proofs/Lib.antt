@@ -4,3 +4,4 @@ pub mod Characters
 pub mod Options
 pub mod Spelled
 pub mod Runs
+pub mod OneAnswer
