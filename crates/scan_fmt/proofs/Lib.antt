@@ -5,3 +5,5 @@ pub mod Options
 pub mod Spelled
 pub mod Runs
 pub mod OneAnswer
+pub mod Cutting
+pub mod Gives

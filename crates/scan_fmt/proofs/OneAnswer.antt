@@ -10,15 +10,15 @@ use Rattle.scan_fmt.proofs.Longest.{longest_one}
 use Rattle.scan_fmt.proofs.Spelled.{heads, listing_one, IsNameHead, names_head, IsNamed, Spelled, alone, named, spelled, named_longest, shape_no_star, shape_no_open}
 
 -- the shape that a letter names
-by_letter : ℕ → Option ℕ → Shape
+pub by_letter : ℕ → Option ℕ → Shape
 by_letter k n = cond (eqb k 115) Solid (cond (eqb k 100) (Decimal n) (cond (eqb k 120) (Hexadecimal n) (cond (eqb k 102) (Float n) AtEnd)))
 
 -- a name is a letter or a set
-data Name (s : Shape) (n : Option ℕ) (name rest : List ℕ) : Type 0 where
+pub data Name (s : Shape) (n : Option ℕ) (name rest : List ℕ) : Type 0 where
   letter : (k : ℕ) → s ≡ by_letter k n → k ≢ 91 → name ≡ k ∷ 125 ∷ rest → Name s n name rest
   set : (inverted : Bool) (listing : List ℕ) → s ≡ Among inverted listing → name ≡ 91 ∷ (caret inverted ++ (listing ++ 93 ∷ 125 ∷ rest)) → IsListing inverted listing → Name s n name rest
 
-name_of : (s : Shape) (n : Option ℕ) (name rest : List ℕ) → Names s n name rest → Name s n name rest
+pub name_of : (s : Shape) (n : Option ℕ) (name rest : List ℕ) → Names s n name rest → Name s n name rest
 unfolding by_letter
 name_of (Until stop) n name rest h = absurd h
 name_of Solid n name rest h = letter 115 refl (λ e. omega arith) h
@@ -28,11 +28,11 @@ name_of (Float limit) n name rest h = letter 102 (ap Float h.1) (λ e. omega ari
 name_of (Among inverted listing) n name rest h = set inverted listing refl h.0 h.1
 name_of AtEnd n name rest h = letter 101 refl (λ e. omega arith) h
 
-uninverted : (l : List ℕ) → IsListing false l → IsListing true l
+pub uninverted : (l : List ℕ) → IsListing false l → IsListing true l
 uninverted [] h = absurd h
 uninverted (c ∷ cs) h = ((λ e. absurd (let bad : true ≡ false = e in cc)), h.1)
 
-no_caret : (l r more : List ℕ) → IsListing false l → l ++ r ≡ 94 ∷ more → ⊥
+pub no_caret : (l r more : List ℕ) → IsListing false l → l ++ r ≡ 94 ∷ more → ⊥
 no_caret [] r more h e = absurd h
 no_caret (c ∷ cs) r more h e = h.0 refl (heads c 94 (cs ++ r) more e).0
 

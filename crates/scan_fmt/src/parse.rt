@@ -1,5 +1,103 @@
-// The scan and its tokens.
-ghost use Rattle.scan_fmt.specs.Scanned.{OneAnswer};
+// The scan, its tokens, and typed readings of them.
+ghost use Rattle.std.specs.Prelude.{◌≡◌, ◌++◌, ◌∷◌, [], ℕ, List, map, OnOk, IfOk, string_bytes, Some, codes};
+ghost use Rattle.std.specs.Iterator.{YieldsFirst, at_most};
+ghost use Rattle.std.specs.Option.{option_map};
+ghost use Rattle.std.specs.Str.{chars};
+ghost use Rattle.std.specs.Vec.Iter.{into_iter_items, into_iter_len};
+ghost use Rattle.scan_fmt.specs.Scanned.{Scanned, OneAnswer, with_token};
+ghost use Rattle.scan_fmt.specs.Tokens.{texts_left, ReadsNext};
+
+use crate::directive::next_directive;
+use crate::text::skip_blanks;
+use numerals::NoMemory;
+use std::alloc::Global;
+use std::error::Error;
+use std::fmt;
+use std::vec::IntoIter;
+
+/// The tokens of a scan, in order.
+#[derive(Drop)]
+pub struct Tokens {
+    tokens: IntoIter<String>,
+}
+
+/// Why the next token wasn't read.
+#[derive(Debug, PartialEq, Drop)]
+pub enum ReadAs {
+    /// No token is left.
+    Missing,
+    /// The token is empty.
+    Empty,
+    /// The token doesn't read as the type.
+    Bad,
+}
+
+/// A fault of a scan, as a text.
+#[derive(Debug, PartialEq, Drop)]
+pub struct ScanError(pub String);
+
+impl fmt::Display for ScanError {
+    ghost output = { λ e. Some (codes "Scan error: " ++ string_bytes e.0) };
+
+    fn fmt<W: fmt::Write>(&self, f: &mut fmt::Formatter<W>) -> fmt::Result {
+        write!(f, "Scan error: {}", self.0)
+    }
+}
+
+impl Error for ScanError {}
+
+/// One token more, if there is one.
+fn push_token(alloc: Global, tokens: &mut Vec<String>, token: Option<&str>) -> Result<(), NoMemory>
+    ensures { OnOk result ((rest : List (List ℕ)) → map chars (map string_bytes tokens.new.items) ++ rest
+        ≡ map chars (map string_bytes tokens.old.items) ++ with_token (option_map (λ t. chars t.now) token.entry) rest) }
+{
+    let Some(token) = token else {
+        return Ok(());
+    };
+    let Ok(text) = String::from_str(alloc, token) else {
+        return Err(NoMemory);
+    };
+    if tokens.push(text).is_err() {
+        return Err(NoMemory);
+    }
+    Ok(())
+}
+
+/// The answer where the input doesn't fit: one empty token.
+fn mismatch(alloc: Global) -> Result<Tokens, NoMemory>
+    ensures { IfOk result (λ t. map chars (texts_left t) ≡ [] ∷ []) }
+{
+    let mut tokens = Vec::new(alloc);
+    if tokens.push(String::new(alloc)).is_err() {
+        return Err(NoMemory);
+    }
+    let tokens = tokens.into_iter();
+    Ok(Tokens { tokens })
+}
+
+/// The tokens that the format takes from the input.
+pub fn scan(alloc: Global, input: &str, format: &str) -> Result<Tokens, NoMemory>
+    ensures { IfOk result (λ t. Scanned (chars input.now) (chars format.now) (map chars (texts_left t))) }
+{
+    let mut tokens = Vec::new(alloc);
+    let mut input = input;
+    let mut format = format;
+    'directives: while let Some((directive, rest)) = next_directive(format) {
+        let here = skip_blanks(input);
+        if here.is_empty() {
+            let tokens = tokens.into_iter();
+            return Ok(Tokens { tokens });
+        }
+        let Some((token, left)) = directive.pass(here) else {
+            return mismatch(alloc);
+        };
+        push_token(alloc, &mut tokens, token)?;
+        input = left;
+        format = rest;
+    }
+    let tokens = tokens.into_iter();
+    Ok(Tokens { tokens })
+}
 
 /// Over one input, one format gives one list of tokens.
 pub fn one_answer()
