@@ -111,3 +111,11 @@ passed_chars P text rest passed none = ap chars passed.whole ∙ chars-append pa
 
 pub ascii_same : (front : List ℕ) → AllByRecursion (λ c. c < 128) front → chars front ≡ front
 ascii_same front each = chars-IsAscii front (ascii_from front each)
+
+-- a text is empty where it has no character
+pub empty_chars : (text : List ℕ) → length text ≡ 0 → chars text ≡ []
+empty_chars [] e = chars-nil
+empty_chars (x ∷ text) e = absurd (omega arith)
+
+pub some_chars : (text : List ℕ) → IsUtf8 text → ¬ (length text ≡ 0) → chars text ≢ []
+some_chars text utf8 some none = let e : text ≡ [] = sym (encodes-chars text utf8) ∙ ap encode_utf8_all none in some (ap length e)

@@ -4,5 +4,6 @@
 mod directive;
 mod field;
 mod number;
-mod text;
 pub mod parse;
+mod read;
+mod text;

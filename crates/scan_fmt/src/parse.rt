@@ -1,11 +1,13 @@
 // The scan, its tokens, and typed readings of them.
-ghost use Rattle.std.specs.Prelude.{◌≡◌, ◌++◌, ◌∷◌, [], ℕ, List, map, OnOk, IfOk, string_bytes, Some, codes};
+ghost use Rattle.std.specs.Prelude.{◌≡◌, ◌++◌, ◌∷◌, [], ℕ, List, length, map, OnOk, IfOk, string_bytes, Some, codes};
 ghost use Rattle.std.specs.Iterator.{YieldsFirst, at_most};
 ghost use Rattle.std.specs.Option.{option_map};
 ghost use Rattle.std.specs.Str.{chars};
 ghost use Rattle.std.specs.Vec.Iter.{into_iter_items, into_iter_len};
 ghost use Rattle.scan_fmt.specs.Scanned.{Scanned, OneAnswer, with_token};
-ghost use Rattle.scan_fmt.specs.Tokens.{texts_left, ReadsNext};
+ghost use Rattle.scan_fmt.specs.Tokens.{tokens_left, texts_left, ReadsNext};
+
+pub use crate::read::{ReadHex, ReadToken};
 
 use crate::directive::next_directive;
 use crate::text::skip_blanks;
@@ -45,6 +47,52 @@ impl fmt::Display for ScanError {
 }
 
 impl Error for ScanError {}
+
+impl Iterator for Tokens {
+    type Item = String;
+
+    ghost next_gives = { YieldsFirst tokens_left };
+
+    ghost remaining = { λ t. at_most (length (tokens_left t)) };
+
+    fn next(&mut self) -> Option<String> {
+        self.tokens.next()
+    }
+}
+
+impl Tokens {
+    /// Reads the next token, and passes it. It takes no memory.
+    pub fn next_as<T: ReadToken>(&mut self) -> Result<T, ReadAs>
+        ensures { ReadsNext T.reads (texts_left self.old) (texts_left self.new) result }
+    {
+        let Some(token) = self.tokens.next() else {
+            return Err(ReadAs::Missing);
+        };
+        if token.is_empty() {
+            return Err(ReadAs::Empty);
+        }
+        match T::read_token(token) {
+            Some(value) => Ok(value),
+            None => Err(ReadAs::Bad),
+        }
+    }
+
+    /// Reads the next token in base 16, and passes it. It takes no memory.
+    pub fn next_hex<T: ReadHex>(&mut self) -> Result<T, ReadAs>
+        ensures { ReadsNext T.reads_hex (texts_left self.old) (texts_left self.new) result }
+    {
+        let Some(token) = self.tokens.next() else {
+            return Err(ReadAs::Missing);
+        };
+        if token.is_empty() {
+            return Err(ReadAs::Empty);
+        }
+        match T::read_hex(token.as_str()) {
+            Some(value) => Ok(value),
+            None => Err(ReadAs::Bad),
+        }
+    }
+}
 
 /// One token more, if there is one.
 fn push_token(alloc: Global, tokens: &mut Vec<String>, token: Option<&str>) -> Result<(), NoMemory>
