@@ -92,7 +92,7 @@ ascii_longest P bytes front rest ascii utf8 long =
       shape = subst P (sym same) long.shape;
       longest = λ other more e can.
           let whole : bytes ≡ other ++ encode_utf8_all more =
-              sym (encodes-chars bytes utf8) ∙ ap encode_utf8_all e ∙ encodes-append other more ∙ ap (λ (t : List ℕ). t ++ encode_utf8_all more) (encodes-IsAscii other (ascii_from other (ascii other can))) in
+          sym (encodes-chars bytes utf8) ∙ ap encode_utf8_all e ∙ encodes-append other more ∙ ap (λ (t : List ℕ). t ++ encode_utf8_all more) (encodes-IsAscii other (ascii_from other (ascii other can))) in
           omega (arith, long.longest other (encode_utf8_all more) whole can, ap length same);
     }
 

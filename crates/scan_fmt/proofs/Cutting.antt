@@ -133,7 +133,7 @@ name_in_front n (k ∷ more) = elim (cases_eq k 91) [
     | inl (rest, f) ↦ elim (lettered k n no_set) [
       | inl (s, names) ↦ inl (s, rest, subst (λ (t : List ℕ). Names s n (k ∷ t) rest) (sym f) (names rest))
       | inr none ↦ inr (λ s r h. let same : rest ≡ r = (heads 125 125 rest r (sym f ∙ brace_next s n k more r no_set (name_of s n (k ∷ more) r h))).1 in
-        none s r (subst (λ (t : List ℕ). Names s n (k ∷ t) r) (f ∙ ap (λ (t : List ℕ). 125 ∷ t) same) h))
+          none s r (subst (λ (t : List ℕ). Names s n (k ∷ t) r) (f ∙ ap (λ (t : List ℕ). 125 ∷ t) same) h))
     ]
   ]
 ]

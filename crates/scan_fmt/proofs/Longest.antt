@@ -86,12 +86,13 @@ longest_then P Q R text a r b s one two joined parts apart = record {
       let there = longer p (x ∷ (q ++ more)) a r (sym e ∙ one.whole) low in
       let same : x ≡ there.0 = (let k : Some x ≡ Some there.0 = there.3 in cc) in
       absurd (apart p there.1 q there.0 (subst P there.2 one.shape) (subst (λ y. Q (y ∷ q)) same qq))
+
   bound : (other p q more : List ℕ) → other ≡ p ++ q → text ≡ p ++ (q ++ more) → P p → Q q → length other ≤ length (a ++ b)
   bound other p q more is e pp qq =
       let low : length p ≤ length a = one.longest p (q ++ more) e pp in
       elim (cases_lt (length p) (length a)) [
         | inl less ↦ (let none : q ≡ [] = short p q more e less qq in omega (arith, ap length is, length-append p q, length-append a b, ap length none))
         | inr most ↦ (let same = same_parts p a (q ++ more) r (omega arith) (sym e ∙ one.whole) in
-          let high : length q ≤ length b = two.longest q more (sym same.1) qq in
-          omega (arith, ap length is, length-append p q, length-append a b))
+            let high : length q ≤ length b = two.longest q more (sym same.1) qq in
+            omega (arith, ap length is, length-append p q, length-append a b))
       ]

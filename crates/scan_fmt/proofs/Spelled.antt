@@ -86,6 +86,7 @@ shape_head s text rest (alone stop is e at) = (125, rest, e, (λ k. omega arith)
 shape_head s text rest (named n) = by_digits n.ds n.name n.whole n.digits (names_head s (limit_of n.ds) n.name rest n.named) where
   no_digit_of : (d c : ℕ) → digit_value d < 10 → 10 ≤ digit_value c → d ≢ c
   no_digit_of d c low high e = omega (arith, low, subst (λ x. 10 ≤ digit_value x) (sym e) high)
+
   by_digits : (ds name : List ℕ) → text ≡ ds ++ name → AllDigits 10 ds → (c : ℕ) × (more : List ℕ) × (name ≡ c ∷ more) × IsNameHead c → (c : ℕ) × (more : List ℕ) × (text ≡ c ∷ more) × (c ≢ 42) × (c ≢ 123)
   by_digits [] name e digits head = (head.0, head.1, e ∙ head.2, head.3.no_star, head.3.no_open)
   by_digits (d ∷ ds) name e digits head = (d, ds ++ name, e, no_digit_of d 42 digits.0 (omega arith), no_digit_of d 123 digits.0 (omega arith))

@@ -6,4 +6,6 @@ mod field;
 mod number;
 pub mod parse;
 mod read;
+#[cfg(test)]
+mod tests;
 mod text;

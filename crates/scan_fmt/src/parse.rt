@@ -7,9 +7,8 @@ ghost use Rattle.std.specs.Vec.Iter.{into_iter_items, into_iter_len};
 ghost use Rattle.scan_fmt.specs.Scanned.{Scanned, OneAnswer, with_token};
 ghost use Rattle.scan_fmt.specs.Tokens.{tokens_left, texts_left, ReadsNext};
 
-pub use crate::read::{ReadHex, ReadToken};
-
 use crate::directive::next_directive;
+pub use crate::read::{ReadHex, ReadToken};
 use crate::text::skip_blanks;
 use numerals::NoMemory;
 use std::alloc::Global;

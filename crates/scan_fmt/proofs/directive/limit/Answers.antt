@@ -20,10 +20,9 @@ returns c =
     let text = c.args.text.now in
     let n = c.digits_len.result in
     let long = longest c.as_bytes.result.now text n c.as_bytes.ensures.value c.digits_len.ensures.longest in
-    let whole = ascii_longest (AllDigits 10) text (take n text) (drop n text) (λ t h. digits_ascii 10 t (omega arith) h) c.utf8.text long in
-    (
+    let whole = ascii_longest (AllDigits 10) text (take n text) (drop n text) (λ t h. digits_ascii 10 t (omega arith) h) c.utf8.text long in (
       take n text,
       subst (λ (r : List ℕ). IsLongest (AllDigits 10) (chars text) (take n text) (chars r)) (sym c.split_at.ensures.back)
-      (subst (λ (f : List ℕ). IsLongest (AllDigits 10) (chars text) f (chars (drop n text))) (ascii_same (take n text) (digits_ascii 10 (take n text) (omega arith) long.shape)) whole),
-      c.limit_of.ensures ∙ ap limit_of c.split_at.ensures.front
+          (subst (λ (f : List ℕ). IsLongest (AllDigits 10) (chars text) f (chars (drop n text))) (ascii_same (take n text) (digits_ascii 10 (take n text) (omega arith) long.shape)) whole),
+      c.limit_of.ensures ∙ ap limit_of c.split_at.ensures.front,
     )

@@ -9,19 +9,19 @@ use Rattle.scan_fmt.proofs.directive.listing.Goals as goal
 pub listed-init : goal.listed-init
 listed-init c = (
   IsUtf8-past_char c.args.text.now c.in_ok-rest.rest.now c.in_ok-rest.field-0-0 c.utf8.text c.in_ok-rest.ensures.bytes,
-  passed_first (IsListing true) c.args.text.now c.in_ok-rest.rest.now c.in_ok-rest.field-0-0 c.utf8.text c.in_ok-rest.ensures.bytes ((λ e. cc), tt)
+  passed_first (IsListing true) c.args.text.now c.in_ok-rest.rest.now c.in_ok-rest.field-0-0 c.utf8.text c.in_ok-rest.ensures.bytes ((λ e. cc), tt),
 )
 
 pub returns-then-c-eq93-clause-some : goal.returns-then-c-eq93-clause-some
 returns-then-c-eq93-clause-some c = (
   c.before-then-c-eq93.ensures.characters ∙ ap (λ (t : List ℕ). chars c.before-then-c-eq93.result.now ++ t) (c.in-Some.ensures.some ∙ ap (λ n. n ∷ chars c.in-Some.more.now) c.if-c-eq93.true),
-  passed_is (IsListing true) c.args.text.now c.before-then-c-eq93.result.now c.listed.rest.now c.before-then-c-eq93.ensures.whole c.listed.invariant.1
+  passed_is (IsListing true) c.args.text.now c.before-then-c-eq93.result.now c.listed.rest.now c.before-then-c-eq93.ensures.whole c.listed.invariant.1,
 )
 
 pub listed-preserved : goal.listed-preserved
 listed-preserved c = (
   IsUtf8-past_char c.listed.rest.now c.in-Some.more.now c.in-Some.c c.listed.invariant.0 c.in-Some.ensures.bytes,
-  passed_more (IsListing true) (IsListing true) c.args.text.now c.listed.rest.now c.in-Some.more.now c.in-Some.c c.listed.invariant.0 c.in-Some.ensures.bytes (λ front is. listing_more c.in-Some.c front c.if-c-eq93.false is) c.listed.invariant.1
+  passed_more (IsListing true) (IsListing true) c.args.text.now c.listed.rest.now c.in-Some.more.now c.in-Some.c c.listed.invariant.0 c.in-Some.ensures.bytes (λ front is. listing_more c.in-Some.c front c.if-c-eq93.false is) c.listed.invariant.1,
 )
 
 pub returns-clause-none : goal.returns-clause-none

@@ -14,14 +14,13 @@ listed-preserved-in-Some-range_end c =
       | else-low-c-via-then-low-c+else-c-high w ↦ not_between low high c.args.c (λ a b. omega (arith, w.if-c-high.false))
       | else-low-c-via-else-low-c w ↦ not_between low high c.args.c (λ a b. omega (arith, w.if-low-c.false))
     ] in
-    let there : chars c.listed.ranges.now ≡ low ∷ 45 ∷ high ∷ chars c.in-Some-range_end.rest.now = c.in-Some.ensures.some ∙ ap (λ (t : List ℕ). low ∷ t) c.in-Some-range_end.ensures.some in
-    (
+    let there : chars c.listed.ranges.now ≡ low ∷ 45 ∷ high ∷ chars c.in-Some-range_end.rest.now = c.in-Some.ensures.some ∙ ap (λ (t : List ℕ). low ∷ t) c.in-Some-range_end.ensures.some in (
       search rules,
-      sym (ranges_pair low high c.args.c (chars c.in-Some-range_end.rest.now) out) ∙ ap (λ (t : List ℕ). is_in_ranges t c.args.c) (sym there) ∙ c.listed.invariant.1
+      sym (ranges_pair low high c.args.c (chars c.in-Some-range_end.rest.now) out) ∙ ap (λ (t : List ℕ). is_in_ranges t c.args.c) (sym there) ∙ c.listed.invariant.1,
     )
 
 pub listed-preserved : goal.listed-preserved
 listed-preserved c = (
   IsUtf8-past_char c.listed.ranges.now c.in-Some.rest.now c.in-Some.low c.listed.invariant.0 c.in-Some.ensures.bytes,
-  sym (ranges_single c.in-Some.low c.args.c (chars c.in-Some.rest.now) c.in_default-range_end.ensures.none (λ e. c.if-c-low.false e)) ∙ ap (λ (t : List ℕ). is_in_ranges t c.args.c) (sym c.in-Some.ensures.some) ∙ c.listed.invariant.1
+  sym (ranges_single c.in-Some.low c.args.c (chars c.in-Some.rest.now) c.in_default-range_end.ensures.none (λ e. c.if-c-low.false e)) ∙ ap (λ (t : List ℕ). is_in_ranges t c.args.c) (sym c.in-Some.ensures.some) ∙ c.listed.invariant.1,
 )

@@ -29,7 +29,7 @@ returns-in_default-pass c =
 pub directives-smaller : goal.directives-smaller
 directives-smaller c =
     let less : length (chars c.in-Some.rest.now) < length (chars c.directives.format.now) =
-        omega (arith, spells_longer (directive_of c.in-Some.directive) (after_blanks (chars c.directives.format.now)) (chars c.in-Some.rest.now) c.in-Some.ensures.some, blanks_shorter (chars c.directives.format.now)) in
+    omega (arith, spells_longer (directive_of c.in-Some.directive) (after_blanks (chars c.directives.format.now)) (chars c.in-Some.rest.now) c.in-Some.ensures.some, blanks_shorter (chars c.directives.format.now)) in
     less
 
 pub directives-preserved : goal.directives-preserved
@@ -37,8 +37,8 @@ directives-preserved c = (
   search rules,
   search rules,
   continues_passed (chars c.args.input.now) (chars c.args.format.now) (chars c.directives.input.now) (chars c.directives.format.now) (chars c.skip_blanks-here.result.now) (chars c.in-Some.rest.now) (chars c.in-Some-pass.left.now)
-  (map chars (map string_bytes c.directives.tokens.items)) (map chars (map string_bytes c.push_token.new.tokens.items)) (directive_of c.in-Some.directive) (option_map (λ t. chars t.now) c.in-Some-pass.token)
-  c.directives.invariant.2 c.skip_blanks-here.ensures (some_chars c.skip_blanks-here.result.now c.skip_blanks-here.utf8 (eqb-false _ 0 (sym c.if-is_empty.ensures))) c.in-Some.ensures.some c.in-Some-pass.ensures.some c.in_ok-push_token.ensures
+      (map chars (map string_bytes c.directives.tokens.items)) (map chars (map string_bytes c.push_token.new.tokens.items)) (directive_of c.in-Some.directive) (option_map (λ t. chars t.now) c.in-Some-pass.token)
+      c.directives.invariant.2 c.skip_blanks-here.ensures (some_chars c.skip_blanks-here.result.now c.skip_blanks-here.utf8 (eqb-false _ 0 (sym c.if-is_empty.ensures))) c.in-Some.ensures.some c.in-Some-pass.ensures.some c.in_ok-push_token.ensures,
 )
 
 pub returns : goal.returns

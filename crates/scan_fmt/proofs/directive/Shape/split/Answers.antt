@@ -33,4 +33,3 @@ returns-in-Float c =
     let P = λ (s : Shape). IsLongest (MayTake s) (chars c.args.input.now) (chars c.split_at-in-Float.result.0.now) (chars c.split_at-in-Float.result.1.now) in
     subst P (sym (ap shape_of c.in-Float.is))
     (number_taken IsFloat c.in-Float.limit c.args.input.now c.within-in-Float.result.now c.split_at-in-Float.result.0.now c.split_at-in-Float.result.1.now c.float_len-end.result float_ascii c.utf8.input c.within-in-Float.ensures c.float_len-end.ensures.within c.float_len-end.ensures.longest c.split_at-in-Float.ensures.front c.split_at-in-Float.ensures.back)
-

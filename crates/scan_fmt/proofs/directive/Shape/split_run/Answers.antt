@@ -21,10 +21,9 @@ returns-then-not-suits c =
 
 pub run-preserved : goal.run-preserved
 run-preserved c =
-    let S = Suits (shape_of c.args.self.now) in
-    (
+    let S = Suits (shape_of c.args.self.now) in (
       IsUtf8-past_char c.run.rest.now c.in-Some.more.now c.in-Some.c c.run.invariant.0 c.in-Some.ensures.bytes,
-      passed_more (AllByRecursion S) (AllByRecursion S) c.args.input.now c.run.rest.now c.in-Some.more.now c.in-Some.c c.run.invariant.0 c.in-Some.ensures.bytes (λ front each. each_more S c.in-Some.c front (c.if-not-suits.ensures.0 refl) each) c.run.invariant.1
+      passed_more (AllByRecursion S) (AllByRecursion S) c.args.input.now c.run.rest.now c.in-Some.more.now c.in-Some.c c.run.invariant.0 c.in-Some.ensures.bytes (λ front each. each_more S c.in-Some.c front (c.if-not-suits.ensures.0 refl) each) c.run.invariant.1,
     )
 
 pub returns : goal.returns
