@@ -41,7 +41,7 @@ signed_sign (x ∷ text) c n at sign long =
     is_sign x c e (inl h) = inl (e ∙ h)
     is_sign x c e (inr h) = inr (inl (e ∙ h))
 
-digits_signed : (text : List ℕ) → AllDigits 10 text → IsSigned text
+pub digits_signed : (text : List ℕ) → AllDigits 10 text → IsSigned text
 digits_signed [] h = tt
 digits_signed (c ∷ cs) h = (inr (inr h.0), h.1)
 
@@ -63,7 +63,7 @@ pub optional_none : (P : List ℕ → Type 0) (c : ℕ) (text : List ℕ) → fi
 optional_none P c text lacks = longest_stops (Optionally c P) text [] text refl tt (λ d more at can. lacks (at ∙ ap Some can.0))
 
 -- the forms of a hexadecimal number
-data Form (text : List ℕ) : Type 0 where
+pub data Form (text : List ℕ) : Type 0 where
   bare : AllDigits 16 text → Form text
   with_x : (ds : List ℕ) → text ≡ 120 ∷ ds → AllDigits 16 ds → Form text
   with_0x : (ds : List ℕ) → text ≡ 48 ∷ 120 ∷ ds → AllDigits 16 ds → Form text
@@ -76,28 +76,30 @@ form text (y ∷ ys) (x ∷ xs) ds e z k each =
     let one : text ≡ 48 ∷ x ∷ (xs ++ ds) = subst (λ w. text ≡ w ∷ x ∷ (xs ++ ds)) z.0 (subst (λ (ws : List ℕ). text ≡ y ∷ (ws ++ (x ∷ xs ++ ds))) z.1 e) in
     with_0x ds (subst (λ w. text ≡ 48 ∷ w ∷ ds) k.0 (subst (λ (ws : List ℕ). text ≡ 48 ∷ x ∷ (ws ++ ds)) k.1 one)) each
 
-form_of : (text : List ℕ) → IsPrefixed text → Form text
+pub form_of : (text : List ℕ) → IsPrefixed text → Form text
 form_of text h = form text h.0 h.1 h.2 h.3 h.4 h.5 h.6
 
 not_hex : (c : ℕ) → c ≡ 120 → digit_value c < 16 → ⊥
 not_hex c e h = let k : digit_value 120 < 16 = subst (λ x. digit_value x < 16) e h in omega arith
 
-after_x : (more : List ℕ) → Form (120 ∷ more) → AllDigits 16 more
+pub after_x : (more : List ℕ) → Form (120 ∷ more) → AllDigits 16 more
 after_x more (bare each) = absurd (not_hex 120 refl each.0)
 after_x more (with_x ds e each) = subst (AllDigits 16) (sym (heads _ _ _ _ e).1) each
 after_x more (with_0x ds e each) = absurd (let k : 120 ≡ 48 = (heads _ _ _ _ e).0 in omega arith)
 
-after_0x : (more : List ℕ) → Form (48 ∷ 120 ∷ more) → AllDigits 16 more
+pub after_0x : (more : List ℕ) → Form (48 ∷ 120 ∷ more) → AllDigits 16 more
 after_0x more (bare each) = absurd (not_hex 120 refl each.1.0)
 after_0x more (with_x ds e each) = absurd (let k : 48 ≡ 120 = (heads _ _ _ _ e).0 in omega arith)
 after_0x more (with_0x ds e each) = subst (AllDigits 16) (sym (heads _ _ _ _ (heads _ _ _ _ e).1).1) each
 
+pub prefixed_x_cons : (x : ℕ) (text a r : List ℕ) → x ≡ 120 → IsLongest (AllDigits 16) text a r → IsLongest IsPrefixed (x ∷ text) (x ∷ a) r
+prefixed_x_cons x text a r same long =
+    longest_cons (AllDigits 16) IsPrefixed x text a r long ([], x ∷ [], a, refl, tt, (same, refl), long.shape)
+    (λ other can. after_x other (form_of _ (subst (λ y. IsPrefixed (y ∷ other)) same can)))
+
 pub prefixed_x : (text : List ℕ) (n : ℕ) → first text ≡ Some 120 → IsLongest (AllDigits 16) (drop 1 text) (take n (drop 1 text)) (drop n (drop 1 text)) → IsLongest IsPrefixed text (take (suc n) text) (drop (suc n) text)
 prefixed_x [] n at long = absurd (let bad : None ≡ Some 120 = at in cc)
-prefixed_x (x ∷ text) n at long =
-    let same : x ≡ 120 = cc in
-    longest_cons (AllDigits 16) IsPrefixed x text (take n text) (drop n text) long ([], x ∷ [], take n text, refl, tt, (same, refl), long.shape)
-    (λ other can. after_x other (form_of _ (subst (λ y. IsPrefixed (y ∷ other)) same can)))
+prefixed_x (x ∷ text) n at long = let same : x ≡ 120 = cc in prefixed_x_cons x text (take n text) (drop n text) same long
 
 -- `0x` in front
 pub begins_0x_is : (text : List ℕ) → begins_0x text ≡ true → (rest : List ℕ) × (text ≡ 48 ∷ 120 ∷ rest)
@@ -112,16 +114,17 @@ begins_0x_not text rest lacks e = let bad : begins_0x (48 ∷ 120 ∷ rest) ≡ 
 abbrev AfterZero : List ℕ → Type 0
 AfterZero t = IsPrefixed (48 ∷ t)
 
+pub prefixed_0x_cons : (rest a r : List ℕ) → IsLongest (AllDigits 16) rest a r → IsLongest IsPrefixed (48 ∷ 120 ∷ rest) (48 ∷ 120 ∷ a) r
+prefixed_0x_cons rest a r long =
+    longest_cons AfterZero IsPrefixed 48 (120 ∷ rest) (120 ∷ a) r
+    (longest_cons (AllDigits 16) AfterZero 120 rest a r long (48 ∷ [], 120 ∷ [], a, refl, (refl, refl), (refl, refl), long.shape) (λ other can. after_0x other (form_of _ can)))
+    (48 ∷ [], 120 ∷ [], a, refl, (refl, refl), (refl, refl), long.shape) (λ other can. can)
+
 pub prefixed_0x : (text : List ℕ) (n : ℕ) → begins_0x text ≡ true → IsLongest (AllDigits 16) (drop 2 text) (take n (drop 2 text)) (drop n (drop 2 text)) → IsLongest IsPrefixed text (take (suc (suc n)) text) (drop (suc (suc n)) text)
 prefixed_0x text n at long =
     let front = begins_0x_is text at in
-    subst (λ (t : List ℕ). IsLongest (AllDigits 16) (drop 2 t) (take n (drop 2 t)) (drop n (drop 2 t)) → IsLongest IsPrefixed t (take (suc (suc n)) t) (drop (suc (suc n)) t)) (sym front.1) (written front.0 n) long
-  where
-    written : (rest : List ℕ) (n : ℕ) → IsLongest (AllDigits 16) rest (take n rest) (drop n rest) → IsLongest IsPrefixed (48 ∷ 120 ∷ rest) (48 ∷ 120 ∷ take n rest) (drop n rest)
-    written rest n long =
-        longest_cons AfterZero IsPrefixed 48 (120 ∷ rest) (120 ∷ take n rest) (drop n rest)
-        (longest_cons (AllDigits 16) AfterZero 120 rest (take n rest) (drop n rest) long (48 ∷ [], 120 ∷ [], take n rest, refl, (refl, refl), (refl, refl), long.shape) (λ other can. after_0x other (form_of _ can)))
-        (48 ∷ [], 120 ∷ [], take n rest, refl, (refl, refl), (refl, refl), long.shape) (λ other can. can)
+    subst (λ (t : List ℕ). IsLongest (AllDigits 16) (drop 2 t) (take n (drop 2 t)) (drop n (drop 2 t)) → IsLongest IsPrefixed t (take (suc (suc n)) t) (drop (suc (suc n)) t)) (sym front.1)
+    (prefixed_0x_cons front.0 (take n front.0) (drop n front.0)) long
 
 pub prefixed_bare : (text a r : List ℕ) → begins_0x text ≡ false → first text ≢ Some 120 → IsLongest (AllDigits 16) text a r → IsLongest IsPrefixed text a r
 prefixed_bare text a r no_0x no_x long = longest_same (AllDigits 16) IsPrefixed text a r long ([], [], a, refl, tt, tt, long.shape) (λ other more e can. back other more e (form_of other can)) where

@@ -7,3 +7,4 @@ pub mod Runs
 pub mod OneAnswer
 pub mod Cutting
 pub mod Gives
+pub mod SomeAnswer

@@ -24,7 +24,7 @@ ranges_single low c (b ∷ z ∷ rest) none h = elim (cases_Bool (eqb b 45)) [
 ]
 
 -- the longest of the first n characters
-limited : (S : List ℕ → Type 0) (n : ℕ) (text a r : List ℕ) → IsLongest S (take n text) a r → IsLongest (λ t. S t × Within (Some n) t) text a (r ++ drop n text)
+pub limited : (S : List ℕ → Type 0) (n : ℕ) (text a r : List ℕ) → IsLongest S (take n text) a r → IsLongest (λ t. S t × Within (Some n) t) text a (r ++ drop n text)
 limited S n text a r long = record {
   whole = sym (take-append-drop n text) ∙ ap (λ (u : List ℕ). u ++ drop n text) long.whole ∙ append_assoc a r (drop n text);
   shape = (long.shape, omega (arith, ap length long.whole, length-take n text, length-append a r));

@@ -4,7 +4,7 @@ ghost use Rattle.std.specs.Iterator.{YieldsFirst, at_most};
 ghost use Rattle.std.specs.Option.{option_map};
 ghost use Rattle.std.specs.Str.{chars};
 ghost use Rattle.std.specs.Vec.Iter.{into_iter_items, into_iter_len};
-ghost use Rattle.scan_fmt.specs.Scanned.{Scanned, OneAnswer, with_token};
+ghost use Rattle.scan_fmt.specs.Scanned.{Scanned, OneAnswer, SomeAnswer, with_token};
 ghost use Rattle.scan_fmt.specs.Tokens.{tokens_left, texts_left, ReadsNext};
 
 use crate::directive::next_directive;
@@ -149,4 +149,9 @@ pub fn scan(alloc: Global, input: &str, format: &str) -> Result<Tokens, NoMemory
 /// Over one input, one format gives one list of tokens.
 pub fn one_answer()
     ensures { OneAnswer }
+{}
+
+/// Each format gives a list of tokens over each input.
+pub fn some_answer()
+    ensures { SomeAnswer }
 {}
