@@ -1,5 +1,6 @@
-use Rattle.std.specs.Prelude.{◌≡◌, ◌≢◌, ℕ, ◌+◌, ◌*◌, ◌^◌, ◌<◌, ◌≤◌, List, [], ◌∷◌, ◌++◌, length, map, All, slice_index, Bool, Option, SomeIff, ⊤}
-use Rattle.std.specs.Fmt.{digit_glyph}
+-- What a numeral is, and what digit characters stand for.
+use Rattle.std.specs.Prelude.{◌≡◌, ℕ, ◌+◌, ◌*◌, ◌^◌, ◌<◌, List, [], ◌∷◌, length, map, slice_index, Bool, ⊤}
+use Rattle.std.specs.Fmt.{digit_glyph, digits_onto}
 use Rattle.std.specs.Char.{digit_value}
 use Rattle.numerals.specs.declared.Radix.{Radix}
 use Rattle.numerals.specs.declared.Radix.TheVariants.{Two, Eight, Ten, Sixteen}
@@ -32,13 +33,9 @@ pub record IsNumeral (b n : ℕ) (ds : List ℕ) : Type 0 where
 abbrev pub IsNumeralText : ℕ → ℕ → Bool → List ℕ → Type 0
 IsNumeralText b n upper text = (ds : List ℕ) × IsNumeral b n ds × (text ≡ map (digit_glyph upper) ds)
 
--- the new text is the old one with the numeral of n at its end
-abbrev pub AddsNumeral : List ℕ → List ℕ → ℕ → ℕ → Bool → Type 0
-AddsNumeral old new b n upper = (text : List ℕ) × IsNumeralText b n upper text × (new ≡ old ++ text)
-
--- n has this many digits
-abbrev pub HasDigits : ℕ → ℕ → ℕ → Type 0
-HasDigits b n count = (ds : List ℕ) × IsNumeral b n ds × (count ≡ length ds)
+-- the numeral of n in base b as a function, for a number of at most 128 digits
+unfoldable pub numeral : ℕ → Bool → ℕ → List ℕ
+numeral b upper n = digits_onto 128 b upper n []
 
 -- one digit character or more, and nothing else
 abbrev pub IsDigitText : ℕ → List ℕ → Type 0

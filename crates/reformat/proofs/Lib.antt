@@ -1,0 +1,11 @@
+pub mod LineLemmas
+pub mod FormatLemmas
+pub mod UniqueRow
+pub mod FirstNumber
+pub mod ReadsRow
+pub mod WordLemmas
+pub mod RowLemmas
+pub mod RewriteLemmas
+pub mod RefusalLemmas
+pub mod ReformatLemmas
+pub mod MessageLemmas
