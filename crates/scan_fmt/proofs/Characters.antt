@@ -1,13 +1,13 @@
 -- Bytes and characters: cuts of a text, and what stands before them.
-use Rattle.std.proofs.Common.{◌≡◌, ◌≢◌, ◌<◌, ◌≤◌, ◌+◌, ◌-◌, ℕ, zero, suc, true, List, [], ◌∷◌, ◌++◌, length, take, drop, get_or, sym, ap, subst, refl, ◌∙◌, arith, append_assoc, length-append, encode_utf8, Option, Some, None, MatchOption, Result, Ok, Err}
+use Rattle.std.proofs.Common.{◌≡◌, ◌≢◌, ◌<◌, ◌≤◌, ◌-◌, ℕ, zero, suc, true, List, [], ◌∷◌, ◌++◌, length, take, sym, ap, subst, refl, ◌∙◌, arith, append_assoc, length-append, encode_utf8, Some, MatchOption, Result, Ok, Err}
 use Rattle.std.specs.Result.{result_ok}
 use Rattle.std.specs.Str.Parse.{ParsesChar}
 use Rattle.std.specs.List.{AllByRecursion}
 use Rattle.std.specs.Char.{IsScalar}
 use Rattle.std.specs.Str.{chars, IsUtf8, IsAscii, IsCharBoundary, encode_utf8_all, all_scalars}
 use Rattle.std.proofs.lemmas.Bool.{and_parts}
-use Rattle.std.proofs.lemmas.Str.{chars-append, chars-encodes, chars-IsAscii, chars-nil, chars_past_char, IsUtf8-from_ascii, IsUtf8-append, IsUtf8-nil, IsUtf8-encode, IsUtf8-take, IsCharBoundary-at_seam, IsCharBoundary-from_take, encodes-chars, encodes-IsAscii, encodes-append, scalars-chars}
-use Rattle.std.proofs.lemmas.List.{take-append-drop, append-nil, append_cancel_right, take_at}
+use Rattle.std.proofs.lemmas.Str.{chars-append, chars-IsAscii, chars-nil, chars_past_char, IsUtf8-from_ascii, IsUtf8-append, IsUtf8-nil, IsUtf8-encode, IsUtf8-take, IsCharBoundary-at_seam, IsCharBoundary-from_take, encodes-chars, encodes-IsAscii, encodes-append, scalars-chars}
+use Rattle.std.proofs.lemmas.List.{append-nil, append_cancel_right, take_at}
 use Rattle.scan_fmt.specs.Directives.{first}
 use Rattle.scan_fmt.specs.Scanned.{IsLongest}
 use Rattle.scan_fmt.specs.Sets.{IsListing}

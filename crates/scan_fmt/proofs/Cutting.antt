@@ -1,5 +1,5 @@
 -- Each format is cut into directives: what stands in front of it can be decided, and each directive shortens it.
-use Rattle.std.proofs.Common.{eqb, cond, ◌≡◌, ◌≢◌, ◌⊎◌, ◌<◌, ◌≤◌, ◌+◌, ℕ, zero, suc, Bool, true, false, List, [], ◌∷◌, ◌++◌, length, Option, Some, None, sym, ap, subst, refl, inl, inr, ◌∙◌, arith, length-append}
+use Rattle.std.proofs.Common.{◌≡◌, ◌≢◌, ◌⊎◌, ◌<◌, ◌≤◌, ℕ, zero, suc, Bool, true, false, List, [], ◌∷◌, ◌++◌, length, Option, Some, None, sym, ap, subst, refl, inl, inr, ◌∙◌, arith, length-append}
 use Rattle.std.specs.List.{AllByRecursion}
 use Rattle.std.specs.Char.{digit_value}
 use Rattle.std.specs.Str.Parse.{AllDigits}
@@ -9,8 +9,8 @@ use Rattle.scan_fmt.specs.Directives.{Shape, Until, Solid, Decimal, Hexadecimal,
 use Rattle.scan_fmt.specs.Scanned.{IsLongest}
 use Rattle.scan_fmt.proofs.Longest.{longest_stops, longest_cons}
 use Rattle.scan_fmt.proofs.Characters.{listing_none}
-use Rattle.scan_fmt.proofs.Spelled.{heads, closed_none, listing_one, IsNamed, Spelled, alone, named, spelled, shape_none, field_none_star, directive_none}
-use Rattle.scan_fmt.proofs.OneAnswer.{by_letter, Name, letter, set, name_of, no_caret, uninverted}
+use Rattle.scan_fmt.proofs.Spelled.{heads, closed_none, Spelled, alone, named, spelled, shape_none, field_none_star, directive_none}
+use Rattle.scan_fmt.proofs.OneAnswer.{Name, letter, set, name_of, no_caret, uninverted}
 
 -- a character in front, or not
 Stands : ℕ → List ℕ → Type 0

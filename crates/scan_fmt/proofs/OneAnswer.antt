@@ -1,13 +1,13 @@
 -- Over one input, one format gives one list of tokens.
-use Rattle.std.proofs.Common.{eqb, cond, ◌≡◌, ◌≢◌, ◌⊎◌, ◌<◌, ◌≤◌, ℕ, Bool, true, false, List, [], ◌∷◌, ◌++◌, length, Option, Some, None, sym, ap, subst, refl, inl, inr, ◌∙◌, arith}
+use Rattle.std.proofs.Common.{eqb, cond, ◌≡◌, ◌≢◌, ◌<◌, ℕ, Bool, true, false, List, [], ◌∷◌, ◌++◌, Option, Some, None, sym, ap, subst, refl, inl, inr, ◌∙◌, arith}
 use Rattle.std.specs.Char.{digit_value}
 use Rattle.std.specs.Option.{option_map}
 use Rattle.std.specs.Str.Parse.{AllDigits}
 use Rattle.scan_fmt.specs.Sets.{IsListing}
-use Rattle.scan_fmt.specs.Directives.{Shape, Until, Solid, Decimal, Hexadecimal, Float, Among, AtEnd, Directive, Exactly, Field, first, star, caret, limit_of, Names, SpellsShape, Spells, NoDirective, Cuts, after_blanks}
-use Rattle.scan_fmt.specs.Scanned.{IsLongest, MayTake, token_of, with_token, Passes, Refuses, Takes, answer, Scanned, OneAnswer}
+use Rattle.scan_fmt.specs.Directives.{Shape, Until, Solid, Decimal, Hexadecimal, Float, Among, AtEnd, Directive, Exactly, Field, first, star, caret, limit_of, Names, SpellsShape, Spells, Cuts, after_blanks}
+use Rattle.scan_fmt.specs.Scanned.{IsLongest, MayTake, token_of, with_token, Passes, Refuses, Takes, answer, OneAnswer}
 use Rattle.scan_fmt.proofs.Longest.{longest_one}
-use Rattle.scan_fmt.proofs.Spelled.{heads, listing_one, IsNameHead, names_head, IsNamed, Spelled, alone, named, spelled, named_longest, shape_no_star, shape_no_open}
+use Rattle.scan_fmt.proofs.Spelled.{heads, listing_one, names_head, Spelled, alone, named, spelled, named_longest, shape_no_star, shape_no_open}
 
 -- the shape that a letter names
 pub by_letter : ℕ → Option ℕ → Shape

@@ -1,5 +1,5 @@
 -- Sets, and numbers within their limits.
-use Rattle.std.proofs.Common.{eqb, leb, cond, ◌&&◌, ◌||◌, ◌≡◌, ◌≢◌, ◌<◌, ◌≤◌, ◌+◌, ◌-◌, ℕ, zero, suc, Bool, true, false, List, [], ◌∷◌, ◌++◌, length, take, drop, Option, Some, None, MatchOption, sym, ap, subst, refl, inl, inr, ◌∙◌, arith, append_assoc, length-append, length-take}
+use Rattle.std.proofs.Common.{eqb, ◌≡◌, ◌≢◌, ◌<◌, ◌≤◌, ◌-◌, ℕ, zero, suc, false, List, [], ◌∷◌, ◌++◌, length, take, drop, Option, Some, None, MatchOption, sym, ap, subst, refl, inl, inr, ◌∙◌, arith, append_assoc, length-append, length-take}
 use Rattle.std.specs.List.{AllByRecursion}
 use Rattle.std.specs.Str.{chars, IsUtf8, IsCharBoundary}
 use Rattle.std.proofs.lemmas.Bool.{cases_Bool, eqb-true, ne_eqb}

@@ -1,5 +1,5 @@
 -- Each format gives a list of tokens over each input: every shape has a longest front.
-use Rattle.std.proofs.Common.{eqb, ◌≡◌, ◌≢◌, ◌⊎◌, ◌<◌, ◌≤◌, ℕ, Bool, true, false, List, [], ◌∷◌, ◌++◌, length, take, drop, Option, Some, None, sym, ap, subst, refl, inl, inr, ◌∙◌, arith}
+use Rattle.std.proofs.Common.{◌≡◌, ◌≢◌, ◌⊎◌, ◌<◌, ◌≤◌, ℕ, Bool, true, false, List, [], ◌∷◌, ◌++◌, take, drop, Option, Some, None, sym, ap, subst, refl, inl, inr, ◌∙◌, arith}
 use Rattle.std.specs.List.{AllByRecursion}
 use Rattle.std.specs.Char.{digit_value}
 use Rattle.std.specs.Option.{option_map}
@@ -7,7 +7,7 @@ use Rattle.std.specs.Str.Parse.{AllDigits}
 use Rattle.std.proofs.lemmas.Bool.{cases_Bool, cases_eq, cases_lt}
 use Rattle.scan_fmt.specs.Directives.{Shape, Until, Solid, Decimal, Hexadecimal, Float, Among, AtEnd, Directive, Exactly, Field, first, is_blank, after_blanks}
 use Rattle.scan_fmt.specs.Sets.{is_in_set}
-use Rattle.scan_fmt.specs.Scanned.{IsLongest, Optionally, IsSigned, IsPrefixed, IsFloat, begins_0x, Within, Suits, MayTake, token_of, with_token, Passes, Refuses, Takes, answer, Scanned, SomeAnswer}
+use Rattle.scan_fmt.specs.Scanned.{IsLongest, Optionally, IsSigned, IsPrefixed, IsFloat, begins_0x, Within, Suits, MayTake, with_token, Passes, Refuses, Takes, answer, SomeAnswer}
 use Rattle.scan_fmt.proofs.Longest.{longest_stops, longest_cons}
 use Rattle.scan_fmt.proofs.Digits.{signed_plain, optional_none, float, begins_0x_is, prefixed_x_cons, prefixed_0x_cons, prefixed_bare}
 use Rattle.scan_fmt.proofs.Runs.{limited}

@@ -1,10 +1,10 @@
 -- How directives are spelled: the characters that they begin with, and where listings and digits end.
-use Rattle.std.proofs.Common.{◌≡◌, ◌≢◌, ◌⊎◌, ◌<◌, ◌≤◌, ℕ, Bool, true, false, List, [], ◌∷◌, ◌++◌, length, Option, Some, None, sym, ap, subst, refl, inl, inr, ◌∙◌, arith, append_assoc}
+use Rattle.std.proofs.Common.{◌≡◌, ◌≢◌, ◌<◌, ◌≤◌, ℕ, Bool, true, false, List, [], ◌∷◌, ◌++◌, Option, Some, sym, ap, subst, refl, inl, inr, ◌∙◌, arith}
 use Rattle.std.specs.List.{AllByRecursion}
 use Rattle.std.specs.Char.{digit_value}
 use Rattle.std.specs.Str.Parse.{AllDigits}
 use Rattle.scan_fmt.specs.Sets.{IsListing}
-use Rattle.scan_fmt.specs.Directives.{Shape, Until, Solid, Decimal, Hexadecimal, Float, Among, AtEnd, Directive, Exactly, Field, first, star, caret, limit_of, Names, SpellsShape, Spells, NoDirective}
+use Rattle.scan_fmt.specs.Directives.{Shape, Until, Solid, Decimal, Hexadecimal, Float, Among, AtEnd, Exactly, Field, first, caret, limit_of, Names, SpellsShape, Spells, NoDirective}
 use Rattle.scan_fmt.specs.Scanned.{IsLongest}
 use Rattle.scan_fmt.proofs.Longest.{longest_stops, longest_one}
 use Rattle.scan_fmt.proofs.Digits.{all_digits_more}

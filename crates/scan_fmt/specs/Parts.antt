@@ -1,5 +1,4 @@
 -- What the program's own types for the parts of a format stand for.
-use Rattle.std.specs.Prelude.{ℕ, Option}
 use Rattle.std.specs.Str.{chars}
 use Rattle.scan_fmt.specs.declared.directive.Shape.{Shape as Part}
 use Rattle.scan_fmt.specs.declared.directive.Shape.TheVariants.{Run, Word, Decimal as DecimalPart, Hexadecimal as HexadecimalPart, Float as FloatPart, Set, End}

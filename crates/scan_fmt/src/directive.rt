@@ -1,9 +1,9 @@
 // The directives of a format: literal characters and fields.
-ghost use Rattle.std.specs.Prelude.{◌≡◌, ◌≢◌, ◌<◌, ◌∷◌, ◌++◌, ℕ, List, Option, Bool, true, false, length, IfNone, IfSome};
+ghost use Rattle.std.specs.Prelude.{◌≡◌, ◌≢◌, ◌<◌, ◌∷◌, ◌++◌, ℕ, List, Option, Bool, true, false, IfNone, IfSome};
 ghost use Rattle.std.specs.Str.{chars};
 ghost use Rattle.std.specs.Str.Parse.{AllDigits};
-ghost use Rattle.scan_fmt.specs.Directives.{after_blanks, limit_of, caret, Names, SpellsShape, Spells, NoDirective};
-ghost use Rattle.scan_fmt.specs.Directives.{Shape as ShapeView, Directive as DirectiveView, Among, Field as FieldView};
+ghost use Rattle.scan_fmt.specs.Directives.{after_blanks, limit_of, Names, SpellsShape, Spells, NoDirective};
+ghost use Rattle.scan_fmt.specs.Directives.{Shape as ShapeView, Field as FieldView};
 ghost use Rattle.scan_fmt.specs.Scanned.{IsLongest};
 ghost use Rattle.scan_fmt.specs.Parts.{shape_of, directive_of};
 ghost use Rattle.scan_fmt.specs.Sets.{IsListing};

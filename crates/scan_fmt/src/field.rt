@@ -7,7 +7,7 @@ ghost use Rattle.std.specs.Str.Parse.{without_leading_plus};
 ghost use Rattle.scan_fmt.specs.Directives.{AtEnd};
 ghost use Rattle.scan_fmt.specs.Scanned.{IsLongest, Suits, MayTake, without_0x, token_of, Passes, Refuses};
 ghost use Rattle.scan_fmt.specs.Parts.{shape_of, directive_of};
-ghost use Rattle.scan_fmt.specs.Sets.{is_in_ranges, is_listed, is_in_set};
+ghost use Rattle.scan_fmt.specs.Sets.{is_in_ranges, is_listed};
 
 use crate::directive::{Directive, Shape};
 use crate::number::{float_len, prefixed_len, signed_len};

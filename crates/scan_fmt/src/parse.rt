@@ -3,7 +3,6 @@ ghost use Rattle.std.specs.Prelude.{◌≡◌, ◌++◌, ◌∷◌, [], ℕ, Lis
 ghost use Rattle.std.specs.Iterator.{YieldsFirst, at_most};
 ghost use Rattle.std.specs.Option.{option_map};
 ghost use Rattle.std.specs.Str.{chars};
-ghost use Rattle.std.specs.Vec.Iter.{into_iter_items, into_iter_len};
 ghost use Rattle.scan_fmt.specs.Scanned.{Scanned, OneAnswer, SomeAnswer, with_token};
 ghost use Rattle.scan_fmt.specs.Tokens.{tokens_left, texts_left, ReadsNext};
 

@@ -1,5 +1,5 @@
 // The front of a text, character by character.
-ghost use Rattle.std.specs.Prelude.{◌≡◌, ◌≢◌, ℕ, ◌<◌, ◌∷◌, ◌++◌, [], List, length, IfNone, IfSome, MatchOption, encode_utf8, IsTrue, ◌↔◌};
+ghost use Rattle.std.specs.Prelude.{◌≡◌, ◌≢◌, ℕ, ◌<◌, ◌∷◌, ◌++◌, [], List, length, IfNone, IfSome, encode_utf8};
 ghost use Rattle.std.specs.Str.{chars};
 ghost use Rattle.scan_fmt.specs.Directives.{is_blank, after_blanks, first};
 

@@ -1,6 +1,4 @@
 use Rattle.std.specs.Str.{chars}
-use Rattle.scan_fmt.specs.Directives.{Shape, Names, SpellsShape}
-use Rattle.std.proofs.Common.{List, ℕ}
 use Rattle.scan_fmt.proofs.Options.{if_none_map}
 use Rattle.scan_fmt.proofs.Spelled.{shape_none}
 use Rattle.scan_fmt.proofs.directive.field_shape.Goals as goal

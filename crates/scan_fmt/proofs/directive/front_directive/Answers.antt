@@ -1,4 +1,4 @@
-use Rattle.std.proofs.Common.{◌≡◌, ◌∷◌, ◌∙◌, ap, List, ℕ}
+use Rattle.std.proofs.Common.{◌≡◌, ◌∷◌, ◌∙◌, ap}
 use Rattle.std.specs.Str.{chars}
 use Rattle.scan_fmt.proofs.Options.{if_none_map}
 use Rattle.scan_fmt.proofs.Spelled.{directive_none}

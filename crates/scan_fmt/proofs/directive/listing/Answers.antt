@@ -1,6 +1,5 @@
-use Rattle.std.proofs.Common.{◌≡◌, ◌++◌, ◌∷◌, [], true, sym, ap, ◌∙◌, List, ℕ}
+use Rattle.std.proofs.Common.{◌++◌, ◌∷◌, true, sym, ap, ◌∙◌, List, ℕ}
 use Rattle.std.specs.Str.{chars}
-use Rattle.std.proofs.lemmas.List.{append-nil}
 use Rattle.std.proofs.lemmas.Str.{IsUtf8-past_char}
 use Rattle.scan_fmt.specs.Sets.{IsListing}
 use Rattle.scan_fmt.proofs.Characters.{passed_first, passed_more, passed_is, passed_chars, listing_more, listing_none}

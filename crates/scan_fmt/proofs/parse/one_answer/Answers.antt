@@ -1,5 +1,4 @@
 use Rattle.scan_fmt.proofs.OneAnswer.{one_answer}
-use Rattle.scan_fmt.proofs.Gives.{scanned_end}
 use Rattle.scan_fmt.proofs.parse.one_answer.Goals as goal
 
 pub returns : goal.returns

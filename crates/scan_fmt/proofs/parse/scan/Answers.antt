@@ -1,4 +1,4 @@
-use Rattle.std.proofs.Common.{◌≡◌, ◌<◌, ◌∷◌, [], length, map, string_bytes, sym, ◌∙◌, subst, List, ℕ, arith, rules, false, IfOk}
+use Rattle.std.proofs.Common.{◌<◌, length, map, string_bytes, sym, subst, arith, rules}
 use Rattle.std.specs.Str.{chars}
 use Rattle.std.specs.Option.{option_map}
 use Rattle.std.proofs.lemmas.Bool.{eqb-true, eqb-false}

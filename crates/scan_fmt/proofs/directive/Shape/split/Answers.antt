@@ -1,4 +1,4 @@
-use Rattle.std.proofs.Common.{◌≡◌, List, ℕ, sym, ap, subst}
+use Rattle.std.proofs.Common.{sym, ap, subst}
 use Rattle.std.specs.Str.{chars}
 use Rattle.scan_fmt.specs.Directives.{Shape}
 use Rattle.scan_fmt.specs.Scanned.{IsLongest, IsSigned, IsPrefixed, IsFloat, MayTake}
