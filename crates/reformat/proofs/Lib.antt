@@ -1,10 +1,10 @@
+pub mod Pieces
 pub mod LineLemmas
-pub mod FormatLemmas
 pub mod UniqueRow
 pub mod FirstNumber
 pub mod ReadsRow
+pub mod FlatRow
 pub mod WordLemmas
-pub mod RowLemmas
 pub mod RewriteLemmas
 pub mod RefusalLemmas
 pub mod ReformatLemmas

@@ -3,17 +3,18 @@ use Rattle.std.proofs.Common.{◌≡◌, ◌⊎◌, ◌+◌, ◌<◌, ◌≤◌,
 use Rattle.std.specs.Option.{IfSome}
 use Rattle.std.specs.Io.KnownBytes.{Consumes, Appends, IsAtEnd}
 use Rattle.edge_io.specs.Ends.{Rises, AppendsFront}
-use Rattle.reformat.specs.declared.element.Element.{Element}
+use Rattle.sprintf.specs.declared.parser.FormatElement.{FormatElement}
+use Rattle.reformat.specs.declared.error.TemplateFault.TheVariants.{Printf as PrintfTemplate}
 use Rattle.reformat.specs.declared.error.ReformatError.{ReformatError}
-use Rattle.reformat.specs.declared.error.ReformatError.TheVariants.{Header, NotARow, NotBuilt, NoMemory, ReadFault, WriteFault, TooLong}
+use Rattle.reformat.specs.declared.error.ReformatError.TheVariants.{Header, SourceFormat, Template, Render, NotARow, NotBuilt, NoMemory, ReadFault, WriteFault, TooLong}
 use Rattle.reformat.specs.Lines.{lines_of}
 use Rattle.reformat.specs.Rewrite.{IsRewritten}
 use Rattle.reformat.specs.Refusal.{RefusesKinds, RefusesSource, RefusesDialect, RefusesTemplate, RefusesRow, RefusesRows, RefusesFromTemplate, RefusesFromDialect, RefusesFromSource, RefusesLines}
 use Rattle.reformat.specs.Refusal.RefusesKinds.{not_utf8 as kinds_not_utf8, no_kind, other_kind}
-use Rattle.reformat.specs.Refusal.RefusesSource.{not_utf8 as source_not_utf8, no_format}
+use Rattle.reformat.specs.Refusal.RefusesSource.{not_utf8 as source_not_utf8, no_format, other_form}
 use Rattle.reformat.specs.Refusal.RefusesDialect.{not_utf8 as dialect_not_utf8, no_dialect, other_dialect}
-use Rattle.reformat.specs.Refusal.RefusesTemplate.{not_utf8 as template_not_utf8, no_template}
-use Rattle.reformat.specs.Refusal.RefusesRow.{not_utf8 as row_not_utf8, no_list}
+use Rattle.reformat.specs.Refusal.RefusesTemplate.{not_utf8 as template_not_utf8, no_format as no_template}
+use Rattle.reformat.specs.Refusal.RefusesRow.{not_utf8 as row_not_utf8, no_list, no_text}
 use Rattle.reformat.specs.Reformats.{Reformats, IsOfLines}
 use Rattle.reformat.proofs.RefusalLemmas.{lines_one, rewritten_is_kept}
 
@@ -28,42 +29,44 @@ told (Some xs) (Some ys) bytes P eaten end here =
 of_lines : (why is : ReformatError) → why ≡ is → IsOfLines is → IsOfLines why
 of_lines why is e h = subst IsOfLines (sym e) h
 
-row_of_lines : (source : List Element) (number : ℕ) (row : List ℕ) (why : ReformatError) → RefusesRow source number row why → IsOfLines why
-row_of_lines source number row why (row_not_utf8 p e) = of_lines why (NotBuilt number) e tt
-row_of_lines source number row why (no_list p q e) = of_lines why (NotARow number) e tt
+row_of_lines : (source template : List FormatElement) (number : ℕ) (row : List ℕ) (why : ReformatError) → RefusesRow source template number row why → IsOfLines why
+row_of_lines source template number row why (row_not_utf8 p e) = of_lines why (NotBuilt number) e tt
+row_of_lines source template number row why (no_list p q e) = of_lines why (NotARow number) e tt
+row_of_lines source template number row why (no_text p ns q cause r fault told_as e) = of_lines why (Render number fault) e tt
 
-rows_of_lines : (source : List Element) (number : ℕ) (rows : List (List ℕ)) (why : ReformatError) → RefusesRows source number rows why → IsOfLines why
-rows_of_lines source number [] why p = absurd p
-rows_of_lines source number (row ∷ rows) why (inl p) = row_of_lines source number row why p
-rows_of_lines source number (row ∷ rows) why (inr p) = rows_of_lines source (number + 1) rows why p.1
+rows_of_lines : (source template : List FormatElement) (number : ℕ) (rows : List (List ℕ)) (why : ReformatError) → RefusesRows source template number rows why → IsOfLines why
+rows_of_lines source template number [] why p = absurd p
+rows_of_lines source template number (row ∷ rows) why (inl p) = row_of_lines source template number row why p
+rows_of_lines source template number (row ∷ rows) why (inr p) = rows_of_lines source template (number + 1) rows why p.1
 
-template_of_lines : (kinds : ℕ) (line : List ℕ) (why : ReformatError) → RefusesTemplate kinds line why → IsOfLines why
-template_of_lines kinds line why (template_not_utf8 p e) = of_lines why (NotBuilt 4) e tt
-template_of_lines kinds line why (no_template p q e) = of_lines why (NotBuilt 4) e tt
+template_of_lines : (line : List ℕ) (why : ReformatError) → RefusesTemplate line why → IsOfLines why
+template_of_lines line why (template_not_utf8 p e) = of_lines why (NotBuilt 4) e tt
+template_of_lines line why (no_template p q e) = of_lines why (Template PrintfTemplate) e tt
 
-from_template_of_lines : (kinds : ℕ) (source : List Element) (lines : List (List ℕ)) (why : ReformatError) → RefusesFromTemplate kinds source lines why → IsOfLines why
-from_template_of_lines kinds source [] why p = of_lines why (Header 4) p tt
-from_template_of_lines kinds source (line ∷ lines) why (inl p) = template_of_lines kinds line why p
-from_template_of_lines kinds source (line ∷ lines) why (inr p) = rows_of_lines source 5 lines why p.2
+from_template_of_lines : (source : List FormatElement) (lines : List (List ℕ)) (why : ReformatError) → RefusesFromTemplate source lines why → IsOfLines why
+from_template_of_lines source [] why p = of_lines why (Header 4) p tt
+from_template_of_lines source (line ∷ lines) why (inl p) = template_of_lines line why p
+from_template_of_lines source (line ∷ lines) why (inr p) = rows_of_lines source p.0 5 lines why p.2
 
 dialect_of_lines : (line : List ℕ) (why : ReformatError) → RefusesDialect line why → IsOfLines why
 dialect_of_lines line why (dialect_not_utf8 p e) = of_lines why (NotBuilt 3) e tt
 dialect_of_lines line why (no_dialect p q e) = of_lines why (Header 3) e tt
 dialect_of_lines line why (other_dialect p d q r e) = of_lines why (NotBuilt 3) e tt
 
-from_dialect_of_lines : (kinds : ℕ) (source : List Element) (lines : List (List ℕ)) (why : ReformatError) → RefusesFromDialect kinds source lines why → IsOfLines why
-from_dialect_of_lines kinds source [] why p = of_lines why (Header 3) p tt
-from_dialect_of_lines kinds source (line ∷ lines) why (inl p) = dialect_of_lines line why p
-from_dialect_of_lines kinds source (line ∷ lines) why (inr p) = from_template_of_lines kinds source lines why p.1
+from_dialect_of_lines : (source : List FormatElement) (lines : List (List ℕ)) (why : ReformatError) → RefusesFromDialect source lines why → IsOfLines why
+from_dialect_of_lines source [] why p = of_lines why (Header 3) p tt
+from_dialect_of_lines source (line ∷ lines) why (inl p) = dialect_of_lines line why p
+from_dialect_of_lines source (line ∷ lines) why (inr p) = from_template_of_lines source lines why p.1
 
 source_of_lines : (kinds : ℕ) (line : List ℕ) (why : ReformatError) → RefusesSource kinds line why → IsOfLines why
 source_of_lines kinds line why (source_not_utf8 p e) = of_lines why (NotBuilt 2) e tt
-source_of_lines kinds line why (no_format p q e) = of_lines why (NotBuilt 2) e tt
+source_of_lines kinds line why (no_format p q e) = of_lines why SourceFormat e tt
+source_of_lines kinds line why (other_form p es q r e) = of_lines why (NotBuilt 2) e tt
 
 from_source_of_lines : (kinds : ℕ) (lines : List (List ℕ)) (why : ReformatError) → RefusesFromSource kinds lines why → IsOfLines why
 from_source_of_lines kinds [] why p = of_lines why (Header 2) p tt
 from_source_of_lines kinds (line ∷ lines) why (inl p) = source_of_lines kinds line why p
-from_source_of_lines kinds (line ∷ lines) why (inr p) = from_dialect_of_lines kinds p.0 lines why p.2
+from_source_of_lines kinds (line ∷ lines) why (inr p) = from_dialect_of_lines p.0 lines why p.2
 
 kinds_of_lines : (line : List ℕ) (why : ReformatError) → RefusesKinds line why → IsOfLines why
 kinds_of_lines line why (kinds_not_utf8 p e) = of_lines why (NotBuilt 1) e tt

@@ -1,66 +1,69 @@
--- Formats of literal bytes and of number fields, and what they print.
-use Rattle.std.specs.Prelude.{◌≡◌, ◌≢◌, ◌<◌, ◌≤◌, ◌⊎◌, ◌+◌, ◌^◌, ℕ, List, [], ◌∷◌, ◌++◌, Option, None, Some, All, Contains}
-use Rattle.std.specs.Option.{option_map}
-use Rattle.std.specs.Fmt.{decimal}
-use Rattle.reformat.specs.declared.element.Element.{Element}
-use Rattle.reformat.specs.declared.element.Element.TheVariants.{Byte, Number}
-
--- the text spells the elements: a byte other than % for itself, and %d or %u for a number
-abbrev pub Spells : List ℕ → List Element → Type 0
-Spells [] [] = Unit {0}
-Spells [] (element ∷ elements) = ⊥
-Spells (byte ∷ text) [] = ⊥
-Spells (byte ∷ text) (Byte literal ∷ elements) = (byte ≡ literal) × (byte ≢ 37) × Spells text elements
-Spells (byte ∷ []) (Number ∷ elements) = ⊥
-Spells (byte ∷ letter ∷ text) (Number ∷ elements) = (byte ≡ 37) × ((letter ≡ 100) ⊎ (letter ≡ 117)) × Spells text elements
-
--- how many fields there are
-abbrev pub field_count : List Element → ℕ
-field_count [] = 0
-field_count (Byte literal ∷ elements) = field_count elements
-field_count (Number ∷ elements) = field_count elements + 1
+-- The format of the rows: a printf format of plain number fields that literal text keeps apart.
+use Rattle.std.specs.Prelude.{◌≡◌, ◌≢◌, ◌<◌, ◌≤◌, ◌⊎◌, ◌+◌, ◌^◌, ℕ, pos, Bool, false, List, [], ◌∷◌, All, map, Ok, Result, ⊤}
+use Rattle.sprintf.specs.Carried.{unsigned_meaning}
+use Rattle.sprintf.specs.Grammar.{IsFormat}
+use Rattle.sprintf.specs.Meaning.{Meaning}
+use Rattle.sprintf.specs.Printed.{printed}
+use Rattle.sprintf.specs.declared.PrintfError.{PrintfError}
+use Rattle.sprintf.specs.declared.parser.ConversionSpecifier.{ConversionSpecifier}
+use Rattle.sprintf.specs.declared.parser.ConversionType.{ConversionType}
+use Rattle.sprintf.specs.declared.parser.ConversionType.TheVariants.{DecInt, PercentSign}
+use Rattle.sprintf.specs.declared.parser.FormatElement.{FormatElement}
+use Rattle.sprintf.specs.declared.parser.FormatElement.TheVariants.{Verbatim, Format}
+use Rattle.sprintf.specs.declared.parser.NumericParam.TheVariants.{Literal, FromArgument}
 
 -- the byte is a decimal digit
 abbrev pub IsDigit : ℕ → Type 0
 IsDigit byte = (48 ≤ byte) × (byte ≤ 57)
 
--- bytes with no digit in front
+-- the text has no digit in front
 abbrev pub BeginsApart : List ℕ → Type 0
-BeginsApart [] = Unit {0}
+BeginsApart [] = ⊤
 BeginsApart (byte ∷ bytes) = ¬ IsDigit byte
 
--- what follows a field: the end, or a byte that is no digit
-abbrev pub EndsField : List Element → Type 0
-EndsField [] = Unit {0}
-EndsField (Byte literal ∷ elements) = ¬ IsDigit literal
-EndsField (Number ∷ elements) = ⊥
+-- a decimal field with no flag, no width, and a precision that is no `*`
+pub record IsPlain (f : ConversionSpecifier) : Type 0 where
+  pub conversion : f.conversion_type ≡ DecInt
+  pub no_prefix : f.alt_form ≡ false
+  pub no_zeros : f.zero_pad ≡ false
+  pub no_minus : f.left_adj ≡ false
+  pub no_space : f.space_sign ≡ false
+  pub no_plus : f.force_sign ≡ false
+  pub no_width : f.width ≡ Literal (pos 0)
+  pub precision : f.precision ≢ FromArgument
 
--- between two fields stands a literal, and no literal after a field begins with a digit
-abbrev pub IsSeparated : List Element → Type 0
-IsSeparated [] = Unit {0}
-IsSeparated (Byte literal ∷ elements) = IsSeparated elements
-IsSeparated (Number ∷ elements) = EndsField elements × IsSeparated elements
+-- what follows a field: the end, or literal text that begins with no digit; `%%` is the literal text `%`
+abbrev pub EndsField : List FormatElement → Type 0
+EndsField [] = ⊤
+EndsField (Verbatim text ∷ elements) = (text.now ≢ []) × BeginsApart text.now
+EndsField (Format f ∷ elements) = f.conversion_type ≡ PercentSign
 
--- the text of the numbers, where there is one for each field
-abbrev pub printed : List Element → List ℕ → Option (List ℕ)
-printed [] [] = Some []
-printed [] (number ∷ numbers) = None
-printed (Byte literal ∷ elements) numbers = option_map (λ text. literal ∷ text) (printed elements numbers)
-printed (Number ∷ elements) [] = None
-printed (Number ∷ elements) (number ∷ numbers) = option_map (λ text. decimal number ++ text) (printed elements numbers)
+-- each field is plain, and what follows it keeps it apart
+abbrev pub IsSeparated : List FormatElement → Type 0
+IsSeparated [] = ⊤
+IsSeparated (Verbatim text ∷ elements) = IsSeparated elements
+IsSeparated (Format f ∷ elements) = ((f.conversion_type ≡ PercentSign) ⊎ (IsPlain f × EndsField elements)) × IsSeparated elements
 
--- the line is the text of these numbers
-pub record IsRow (elements : List Element) (line numbers : List ℕ) : Type 0 where
-  pub text : printed elements numbers ≡ Some line
+-- how many fields there are; `%%` is none
+abbrev pub fields_in : ConversionType → ℕ
+fields_in PercentSign = 0
+fields_in _ = 1
+
+abbrev pub field_count : List FormatElement → ℕ
+field_count [] = 0
+field_count (Verbatim text ∷ elements) = field_count elements
+field_count (Format f ∷ elements) = fields_in f.conversion_type + field_count elements
+
+-- what numbers are to a format
+abbrev pub values_of : List ℕ → List Meaning
+values_of numbers = map unsigned_meaning numbers
+
+-- the line is the printed text of these numbers
+pub record IsRow (elements : List FormatElement) (line numbers : List ℕ) : Type 0 where
+  pub text : printed elements (values_of numbers) ≡ Ok line
   pub fit : All (λ number. number < 2 ^ 64) numbers
 
--- the line is a format of fields that literals keep apart, one for each kind
-pub record IsSource (kinds : ℕ) (line : List ℕ) (elements : List Element) : Type 0 where
-  pub spelled : Spells line elements
+-- the elements are in the form that is rewritten: separated fields, one for each kind
+pub record IsInForm (kinds : ℕ) (elements : List FormatElement) : Type 0 where
   pub separated : IsSeparated elements
-  pub one_a_kind : field_count elements ≡ kinds
-
--- the line is a template with one field for each kind
-pub record IsTemplate (kinds : ℕ) (line : List ℕ) (elements : List Element) : Type 0 where
-  pub spelled : Spells line elements
   pub one_a_kind : field_count elements ≡ kinds

@@ -2,6 +2,7 @@ pub mod Lines
 pub mod Kinds
 pub mod Format
 pub mod Headers
+pub mod Fault
 pub mod Rewrite
 pub mod Refusal
 pub mod Status

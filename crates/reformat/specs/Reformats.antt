@@ -3,7 +3,7 @@ use Rattle.std.specs.Prelude.{◌≡◌, ◌<◌, ◌≤◌, ◌⊎◌, ◌+◌,
 use Rattle.std.specs.Io.KnownBytes.{Appends, IsAtEnd}
 use Rattle.edge_io.specs.Ends.{Rises, AppendsFront}
 use Rattle.reformat.specs.declared.error.ReformatError.{ReformatError}
-use Rattle.reformat.specs.declared.error.ReformatError.TheVariants.{Header, NotARow, NotBuilt, NoMemory, ReadFault, WriteFault, TooLong}
+use Rattle.reformat.specs.declared.error.ReformatError.TheVariants.{Header, SourceFormat, Template, Render, NotARow, NotBuilt, NoMemory, ReadFault, WriteFault, TooLong}
 use Rattle.reformat.specs.Lines.{lines_of}
 use Rattle.reformat.specs.Rewrite.{IsRewritten}
 use Rattle.reformat.specs.Refusal.{RefusesLines}
@@ -11,6 +11,9 @@ use Rattle.reformat.specs.Refusal.{RefusesLines}
 -- the error is the refusal of a line
 abbrev pub IsOfLines : ReformatError → Type 0
 IsOfLines (Header line) = Unit {0}
+IsOfLines SourceFormat = Unit {0}
+IsOfLines (Template fault) = Unit {0}
+IsOfLines (Render line fault) = Unit {0}
 IsOfLines (NotARow line) = Unit {0}
 IsOfLines (NotBuilt line) = Unit {0}
 IsOfLines NoMemory = ⊥
@@ -21,6 +24,9 @@ IsOfLines TooLong = ⊥
 -- a fault of reading, or want of memory
 abbrev pub IsOfReading : ReformatError → Type 0
 IsOfReading (Header line) = ⊥
+IsOfReading SourceFormat = ⊥
+IsOfReading (Template fault) = ⊥
+IsOfReading (Render line fault) = ⊥
 IsOfReading (NotARow line) = ⊥
 IsOfReading (NotBuilt line) = ⊥
 IsOfReading NoMemory = Unit {0}

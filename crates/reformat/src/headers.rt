@@ -1,13 +1,15 @@
 // The four header lines.
-ghost use Rattle.std.specs.Prelude.{◌≡◌, ◌⊎◌, ◌↔◌, IsTrue, IfOk, IfErr};
-ghost use Rattle.reformat.specs.Format.{IsSeparated, field_count};
+ghost use Rattle.std.specs.Prelude.{◌≡◌, ◌⊎◌, IfOk, IfErr, MatchOption};
+ghost use Rattle.sprintf.specs.Grammar.{IsFormat, IsNoFormat};
 ghost use Rattle.reformat.specs.Headers.{IsKindsLine, IsSourceLine, IsDialectLine, IsTemplateLine};
 ghost use Rattle.reformat.specs.Refusal.{RefusesKinds, RefusesSource, RefusesDialect, RefusesTemplate};
 
-use crate::ReformatError;
-use crate::element::{Element, count_fields, elements_of, is_separated};
+use crate::form::is_in_form;
 use crate::kind::{Dialect, all_name_kinds, count_u64, dialect_of};
 use crate::lines::is_utf8;
+use crate::{ReformatError, TemplateFault};
+use sprintf::PrintfError;
+use sprintf::parser::{FormatElement, parse_format_string};
 use std::alloc::Global;
 
 /// Reads line 1: how many kinds it names.
@@ -27,11 +29,16 @@ pub(crate) fn read_kinds(line: &[u8]) -> Result<usize, ReformatError>
     }
 }
 
-// Whether there is one field for each kind, and literals keep the fields apart.
-fn keeps_apart(source: &[Element], kinds: usize) -> bool
-    ensures { IsTrue result ↔ (IsSeparated source.now × (field_count source.now ≡ kinds)) }
+// The elements of a printf format, where the text is one.
+fn elements_of(alloc: Global, text: &str) -> Result<Option<Vec<FormatElement<'_>>>, ReformatError>
+    ensures ok { IfOk result (λ found. MatchOption found (IsNoFormat text.now) (λ elements. IsFormat text.now elements.items)) }
+    ensures memory { IfErr result (λ why. why ≡ ReformatError.NoMemory) }
 {
-    is_separated(source) && count_fields(source) == kinds
+    match parse_format_string(alloc, text) {
+        Ok(elements) => Ok(Some(elements)),
+        Err(PrintfError::ParseError) => Ok(None),
+        Err(_) => Err(ReformatError::NoMemory),
+    }
 }
 
 /// Reads line 2: the elements of the rows' format.
@@ -39,17 +46,17 @@ pub(crate) fn read_source(
     alloc: Global,
     kinds: usize,
     line: &[u8],
-) -> Result<Vec<Element>, ReformatError>
+) -> Result<Vec<FormatElement<'_>>, ReformatError>
     ensures ok { IfOk result (λ source. IsSourceLine kinds line.now source.items) }
     ensures err { IfErr result (λ why. RefusesSource kinds line.now why ⊎ (why ≡ ReformatError.NoMemory)) }
 {
-    if !is_utf8(line) {
-        return Err(ReformatError::NotBuilt { line: 2 });
-    }
-    let Some(source) = elements_of(alloc, line)? else {
+    let Ok(text) = std::str::from_utf8(line) else {
         return Err(ReformatError::NotBuilt { line: 2 });
     };
-    if keeps_apart(&source, kinds) {
+    let Some(source) = elements_of(alloc, text)? else {
+        return Err(ReformatError::SourceFormat);
+    };
+    if is_in_form(kinds, &source) {
         Ok(source)
     } else {
         Err(ReformatError::NotBuilt { line: 2 })
@@ -75,21 +82,16 @@ pub(crate) fn read_dialect(line: &[u8]) -> Result<(), ReformatError>
 /// Reads line 4: the elements of the template.
 pub(crate) fn read_template(
     alloc: Global,
-    kinds: usize,
     line: &[u8],
-) -> Result<Vec<Element>, ReformatError>
-    ensures ok { IfOk result (λ template. IsTemplateLine kinds line.now template.items) }
-    ensures err { IfErr result (λ why. RefusesTemplate kinds line.now why ⊎ (why ≡ ReformatError.NoMemory)) }
+) -> Result<Vec<FormatElement<'_>>, ReformatError>
+    ensures ok { IfOk result (λ template. IsTemplateLine line.now template.items) }
+    ensures err { IfErr result (λ why. RefusesTemplate line.now why ⊎ (why ≡ ReformatError.NoMemory)) }
 {
-    if !is_utf8(line) {
-        return Err(ReformatError::NotBuilt { line: 4 });
-    }
-    let Some(template) = elements_of(alloc, line)? else {
+    let Ok(text) = std::str::from_utf8(line) else {
         return Err(ReformatError::NotBuilt { line: 4 });
     };
-    if count_fields(&template) == kinds {
-        Ok(template)
-    } else {
-        Err(ReformatError::NotBuilt { line: 4 })
+    match elements_of(alloc, text)? {
+        Some(template) => Ok(template),
+        None => Err(ReformatError::Template(TemplateFault::Printf)),
     }
 }
