@@ -1,9 +1,9 @@
 -- Each text can be cut.
-use Rattle.std.proofs.Common.{◌≡◌, ◌≢◌, ◌⊎◌, inl, inr, ℕ, ◌<◌, ◌≤◌, ◌+◌, List, [], ◌∷◌, ◌++◌, refl, length, arith, sym, ◌∙◌, ap, append_assoc, length-append, suc, zero, Option, Some, None, true, false, subst}
-use Rattle.std.specs.Prelude.{IsUtf8, slice_index, eqb}
+use Rattle.std.proofs.Common.{◌≡◌, ◌≢◌, ◌⊎◌, inl, inr, ℕ, ◌<◌, ◌≤◌, List, [], ◌∷◌, ◌++◌, refl, length, arith, sym, ◌∙◌, ap, append_assoc, length-append, suc, zero, Option, Some, None, true, false, subst}
+use Rattle.std.specs.Prelude.{slice_index, eqb}
 use Rattle.std.proofs.lemmas.Bool.Decides.{eqb_tells}
-use Rattle.strfmt.specs.Piece.{Piece, ordinary, escape, pattern, IsBrace, IsNoBrace, HasNoBrace, Break, lone, unclosed, BeginsWith, IsCut}
-use Rattle.strfmt.specs.Cutting.{BeginsWithBrace, IsPlainFront}
+use Rattle.strfmt.specs.Piece.{Piece, ordinary, escape, pattern, IsBrace, IsNoBrace, Break, lone, unclosed, BeginsWith, IsCut}
+use Rattle.strfmt.specs.Cutting.{IsPlainFront}
 use Rattle.strfmt.proofs.CutLemmas.{unclosed_is, nested_is}
 
 pub record Cut (text : List ℕ) : Type 0 where

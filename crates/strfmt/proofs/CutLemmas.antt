@@ -1,5 +1,5 @@
 -- How texts are cut at braces.
-use Rattle.std.proofs.Common.{◌≡◌, ◌≢◌, ◌⊎◌, inl, inr, ℕ, ◌+◌, ◌-◌, ◌<◌, ◌≤◌, List, [], ◌∷◌, ◌++◌, refl, length, take, drop, get_or, arith, sym, ◌∙◌, ap, append_assoc, append-nil, length-append, suc, zero, add-one, subst}
+use Rattle.std.proofs.Common.{◌≡◌, ◌≢◌, inl, inr, ℕ, ◌+◌, ◌<◌, ◌≤◌, List, [], ◌∷◌, ◌++◌, refl, length, take, drop, get_or, arith, sym, ◌∙◌, ap, append_assoc, append-nil, length-append, suc, subst}
 use Rattle.std.proofs.lemmas.List.{length-take-le}
 use Rattle.std.specs.Prelude.{IsUtf8, IsCharBoundary, slice_index}
 use Rattle.std.proofs.lemmas.Str.{IsCharBoundary-end, IsCharBoundary-before_ascii, IsUtf8-drop, IsUtf8-past_char, encode_ascii}

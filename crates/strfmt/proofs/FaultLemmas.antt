@@ -1,5 +1,5 @@
 -- Checks that refuse.
-use Rattle.std.proofs.Common.{◌≡◌, ◌⊎◌, inl, inr, List, ℕ, Option, Some, None, Result}
+use Rattle.std.proofs.Common.{◌≡◌, ◌⊎◌, inl, inr, Option, Some, None}
 use Rattle.strfmt.specs.declared.types.FmtError.{FmtError}
 use Rattle.strfmt.specs.declared.types.FmtError.TheVariants.{NoMemory}
 use Rattle.strfmt.specs.Fault.{Fault, Outcome, IsFailure, IsRefusal, unless_refused}

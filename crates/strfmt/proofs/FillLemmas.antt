@@ -1,16 +1,13 @@
 -- Fills and fronts of a text, in characters and in bytes.
-use Rattle.std.proofs.Common.{◌≡◌, ℕ, ◌+◌, ◌-◌, ◌*◌, ◌<◌, ◌≤◌, List, [], ◌∷◌, ◌++◌, refl, length, take, drop, replicate, arith, sym, ◌∙◌, ap, append_assoc, append-nil, length-append, suc, zero, add-one, true, Option, Some, Result, Ok}
+use Rattle.std.proofs.Common.{◌≡◌, ℕ, ◌+◌, ◌-◌, ◌*◌, ◌<◌, ◌≤◌, List, [], ◌∷◌, ◌++◌, refl, length, take, replicate, arith, sym, ◌∙◌, ap, append_assoc, append-nil, length-append, suc, zero, add-one, true, Some, Ok}
 use Rattle.std.specs.Prelude.{IsUtf8, encode_utf8_all, encode_utf8, IsCharBoundary}
 use Rattle.std.specs.Str.{chars}
-use Rattle.std.specs.Char.{len_utf8}
 use Rattle.std.specs.Str.{all_scalars}
 use Rattle.std.proofs.lemmas.Bool.Decides.{nat_tests}
-use Rattle.strfmt.specs.Fault.{Outcome}
 use Rattle.strfmt.specs.Field.{encoded, padded, placed}
 use Rattle.strfmt.specs.Sides.{IsSides, fills}
 use Rattle.strfmt.specs.Spec.{Spec, width_of}
-use Rattle.std.proofs.lemmas.Grind.{common_steps}
-use Rattle.std.proofs.lemmas.Str.{length-encode, encodes-append, chars_past_char, chars-nil, IsUtf8-past_char, encodes-chars, chars-encodes, scalars-chars, IsCharBoundary-at_seam}
+use Rattle.std.proofs.lemmas.Str.{encodes-append, chars_past_char, chars-nil, IsUtf8-past_char, encodes-chars, chars-encodes, scalars-chars, IsCharBoundary-at_seam}
 use Rattle.std.proofs.lemmas.List.{take_all}
 use Rattle.std.proofs.Math.Seq.{take-append_seam}
 use Rattle.std.proofs.Math.Nat.{mul-le-mul_right}

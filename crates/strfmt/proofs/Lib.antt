@@ -1,5 +1,6 @@
 pub mod CutExists
 pub mod CutLemmas
+pub mod CutUnique
 pub mod FaultLemmas
 pub mod FillLemmas
 pub mod KeyLemmas

@@ -1,12 +1,11 @@
 -- Numbers read digit by digit, by steps that stop at the last value.
-use Rattle.std.proofs.Common.{◌≡◌, ℕ, ◌+◌, ◌*◌, ◌-◌, ◌^◌, ◌<◌, min, List, [], ◌∷◌, Option, Some, None, cond, true, false, Bool, refl, take_while, length, drop, arith, ◌∙◌, ap, sym, suc, rules}
-use Rattle.std.proofs.lemmas.Grind.{common_steps}
-use Rattle.std.specs.Prelude.{if◌then◌else◌, unwrap_or, option_map}
+use Rattle.std.proofs.Common.{◌≡◌, ℕ, ◌+◌, ◌*◌, ◌-◌, min, List, [], ◌∷◌, Option, Some, None, true, false, Bool, refl, take_while, length, drop, arith, ◌∙◌, ap, sym, suc}
+use Rattle.std.specs.Prelude.{if◌then◌else◌, unwrap_or}
 use Rattle.std.specs.Char.{is_ascii_digit, digit_value}
-use Rattle.std.specs.Str.Parse.{digits_value, digits_value_after}
+use Rattle.std.specs.Str.Parse.{digits_value_after}
 use Rattle.std.specs.List.{prefix_len, IsFirstAndRest}
 use Rattle.std.proofs.lemmas.Bool.Decides.{nat_tests}
-use Rattle.strfmt.specs.Parts.{Part, number_of, number_part, capped_number}
+use Rattle.strfmt.specs.Parts.{Part, number_part, capped_number}
 
 -- the number so far, one more digit, both stopped at M
 abbrev pub step : ℕ → ℕ → ℕ → ℕ

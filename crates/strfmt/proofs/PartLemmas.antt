@@ -1,11 +1,11 @@
 -- The first character of a text.
-use Rattle.std.proofs.Common.{◌≡◌, ℕ, ◌+◌, List, [], ◌∷◌, ◌++◌, Option, None, refl, drop, length, arith, sym, ◌∙◌, ap, slice_index, zero-add}
+use Rattle.std.proofs.Common.{◌≡◌, ℕ, List, [], ◌∷◌, ◌++◌, None, refl, drop, length, arith, sym, ◌∙◌, ap, slice_index, zero-add}
 use Rattle.std.specs.Prelude.{IsUtf8}
 use Rattle.std.specs.Str.{chars}
 use Rattle.std.specs.Char.{len_utf8}
-use Rattle.std.proofs.lemmas.Str.{chars_past_char, drop_past_char, chars-nil}
+use Rattle.std.proofs.lemmas.Str.{chars_past_char, drop_past_char}
 use lib.Utf8.{encode}
-use Rattle.strfmt.specs.Parts.{Part, first_char, filled_part, alignment_part}
+use Rattle.strfmt.specs.Parts.{first_char, filled_part, alignment_part}
 
 -- a text that begins with a character
 pub first_char_is : (text rest : List ℕ) (c : ℕ) → IsUtf8 text → text ≡ encode c ++ rest → first_char text ≡ record { value = c; rest = rest }

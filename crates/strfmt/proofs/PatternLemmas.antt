@@ -1,15 +1,15 @@
 -- How a pattern is judged from its parts.
-use Rattle.std.proofs.Common.{◌≡◌, ◌≢◌, ℕ, ◌+◌, ◌-◌, ◌^◌, ◌<◌, ◌≤◌, min, List, [], ◌∷◌, Option, Some, None, Result, Ok, Err, Bool, true, false, refl, length, ◌⊎◌, inl, inr, arith, sym, ◌∙◌, ap, nat_lt, rules}
-use Rattle.std.specs.Prelude.{◌==◌, if◌then◌else◌, ◌&&◌, is_none, option_map}
+use Rattle.std.proofs.Common.{◌≡◌, ℕ, ◌<◌, ◌≤◌, min, List, [], ◌∷◌, Option, Some, None, Result, Ok, Err, Bool, true, false, refl, length, ◌⊎◌, inl, inr, arith, sym, ◌∙◌, ap, nat_lt}
+use Rattle.std.specs.Prelude.{◌==◌, if◌then◌else◌, is_none}
 use Rattle.std.specs.List.{after_first}
 use Rattle.std.proofs.lemmas.Bool.Decides.{nat_tests}
 use Rattle.strfmt.specs.declared.types.FmtError.{FmtError}
 use Rattle.strfmt.specs.declared.types.FmtError.TheVariants.{NoMemory}
 use Rattle.strfmt.specs.Fault.{Fault, invalid, Check, first_failure, IsFailure, IsRefusal, IsFault}
 use Rattle.strfmt.specs.Message.{no_key}
-use Rattle.strfmt.specs.Spec.{Spec, View}
+use Rattle.strfmt.specs.Spec.{Spec}
 use Rattle.strfmt.specs.Parts.{Parts, parts_of, capped, capped_number}
-use Rattle.strfmt.specs.Pattern.{read_pattern, read_spec, key_of, checks_of, spec_of, is_too_large, fresh}
+use Rattle.strfmt.specs.Pattern.{read_pattern, read_spec, key_of, checks_of, spec_of, is_too_large}
 
 lt_min : (limit last n : ℕ) → limit < last → nat_lt limit (min n last) ≡ nat_lt limit n
 lt_min limit last n h = grind (arith, nat_tests, h)

@@ -1,17 +1,16 @@
 -- The definitions at worked values, computed.
-use Rattle.std.proofs.Common.{◌≡◌, ℕ, List, [], ◌∷◌, ◌++◌, Option, Some, None, Ok, Err, refl, pos, negsuc, cond}
+use Rattle.std.proofs.Common.{◌≡◌, ℕ, List, [], ◌∷◌, ◌++◌, Option, Some, None, Ok, Err, refl, negsuc}
 use Rattle.std.specs.Prelude.{codes, bytes_eq, if◌then◌else◌}
 use Rattle.std.specs.Str.{chars}
 use Rattle.std.specs.Int.{w8, w32}
 use lib.Utf8.{encode}
 use Rattle.numerals.specs.Numeral.{numeral}
-use Rattle.strfmt.specs.Fault.{Fault, Outcome, invalid, key_error, type_error}
+use Rattle.strfmt.specs.Fault.{Outcome, invalid, key_error, type_error}
 use Rattle.strfmt.specs.Message.{lone_brace}
-use Rattle.strfmt.specs.Spec.{Spec, View}
 use Rattle.strfmt.specs.Pattern.{read_pattern}
 use Rattle.strfmt.specs.Parts.{alignment_part, sign_part, aligned_part, number_part, parts_of}
 use Rattle.strfmt.specs.Field.{text_field, integer_field, unsigned, signed}
-use Rattle.strfmt.specs.Piece.{Piece, ordinary, escape, pattern, Break, lone, nested, unclosed}
+use Rattle.strfmt.specs.Piece.{ordinary, escape, pattern, lone}
 use Rattle.strfmt.specs.Text.{Meaning, joined, filled_pattern}
 
 -- keys with texts and keys with integers

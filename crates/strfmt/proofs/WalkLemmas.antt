@@ -1,17 +1,16 @@
 -- Walks over a text, piece by piece.
-use Rattle.std.proofs.Common.{◌≡◌, ◌⊎◌, inl, inr, ℕ, List, [], ◌∷◌, ◌++◌, refl, arith, sym, ◌∙◌, ap, append_assoc, append-nil, subst, Option, Some, None, Result, Ok, Err}
+use Rattle.std.proofs.Common.{◌≡◌, ℕ, List, [], ◌∷◌, ◌++◌, refl, sym, ◌∙◌, ap, append_assoc, append-nil, subst, Option, Some, None, Result, Ok, Err}
 use Rattle.std.specs.Borrow.{MutBor}
 use Rattle.std.specs.Fn.{Mut}
 use Rattle.strfmt.specs.declared.types.FmtError.{FmtError}
-use Rattle.strfmt.specs.declared.types.FmtError.TheVariants.{NoMemory}
 use Rattle.strfmt.specs.Fault.{Fault, IsFault, IsRefusal}
 use Rattle.strfmt.specs.Spec.{View}
 use Rattle.strfmt.specs.Pattern.{read_pattern}
-use Rattle.strfmt.specs.Piece.{Piece, ordinary, escape, pattern, Break, IsBrace, HasNoBrace, IsCut, BeginsWith}
+use Rattle.strfmt.specs.Piece.{Piece, ordinary, escape, pattern, Break, IsBrace, HasNoBrace, BeginsWith}
 use Rattle.strfmt.specs.Text.{break_fault}
 use Rattle.strfmt.specs.Cutting.{IsPlainFront}
 use Rattle.strfmt.proofs.CutExists.{cut_of}
-use Rattle.strfmt.specs.Walk.{Answer, Walked, walked_after, IsRefused, CallsAt, Fills, Walks, IsWalk}
+use Rattle.strfmt.specs.Walk.{Answer, Walked, walked_after, CallsAt, Fills, Walks, IsWalk}
 
 pub walked_after-append : (xs ys : List ℕ) (answer : Walked) → walked_after xs (walked_after ys answer) ≡ walked_after (xs ++ ys) answer
 walked_after-append xs ys (Ok text) = ap (λ (bs : List ℕ). Ok bs) (sym (append_assoc xs ys text))

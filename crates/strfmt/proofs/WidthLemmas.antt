@@ -1,5 +1,5 @@
 -- A field has at least its width.
-use Rattle.std.proofs.Common.{◌≡◌, ◌≢◌, ◌⊎◌, inl, inr, ℕ, ◌+◌, ◌-◌, ◌/◌, ◌<◌, ◌≤◌, List, [], ◌∷◌, ◌++◌, refl, length, replicate, arith, sym, ◌∙◌, ap, subst, append_assoc, length-append, Bool, true, false, Option, Some, None, Result, Ok, Err}
+use Rattle.std.proofs.Common.{◌≡◌, ◌≢◌, ◌⊎◌, inl, inr, ℕ, ◌+◌, ◌-◌, ◌/◌, ◌<◌, ◌≤◌, List, [], ◌∷◌, ◌++◌, refl, length, replicate, arith, sym, ◌∙◌, ap, length-append, Bool, true, false, Option, Some, None, Ok, Err}
 use Rattle.std.specs.Prelude.{encode_utf8_all, ◌==◌, chars, if◌then◌else◌, not, ◌&&◌, unwrap_or, codes}
 use Rattle.std.proofs.lemmas.Bool.Decides.{eqb_tells}
 use Rattle.std.proofs.lemmas.List.{length-replicate}

@@ -1,12 +1,12 @@
 -- What a text and an integer print under a specification.
-use Rattle.std.specs.Prelude.{ℕ, ◌+◌, ◌-◌, ◌/◌, ◌<◌, List, [], ◌∷◌, ◌++◌, Bool, true, false, Option, Some, None, Result, Ok, Err, if◌then◌else◌, ◌==◌, ◌&&◌, not, is_some, is_none, unwrap_or, take, length, replicate, chars, encode_utf8_all, codes, ℤ, unsigned_abs}
+use Rattle.std.specs.Prelude.{ℕ, ◌-◌, ◌/◌, List, [], ◌∷◌, ◌++◌, Bool, true, false, Option, Some, None, Ok, Err, if◌then◌else◌, ◌==◌, ◌&&◌, not, is_some, is_none, unwrap_or, take, length, replicate, chars, encode_utf8_all, codes, ℤ, unsigned_abs}
 use Rattle.std.specs.Int.{Width, cast_unsigned, is_negative}
 use Rattle.numerals.specs.Numeral.{numeral}
 use Rattle.strfmt.specs.declared.types.Alignment.{Alignment}
 use Rattle.strfmt.specs.declared.types.Alignment.TheVariants.{Unspecified, Left, Center, Right, Equal}
 use Rattle.strfmt.specs.declared.types.Sign.{Sign}
 use Rattle.strfmt.specs.declared.types.Sign.TheVariants.{Unspecified as NoSign, Plus, Minus, Space}
-use Rattle.strfmt.specs.Fault.{Fault, invalid, type_error, Outcome, after, Check, first_failure, unless_refused}
+use Rattle.strfmt.specs.Fault.{invalid, type_error, Outcome, after, Check, first_failure, unless_refused}
 use Rattle.strfmt.specs.Message.{not_of_integers, precision_of_integer, thousands_of_integer, zero_fill_on_the_left, alternate_without_type, not_of_texts, alternate_of_text, thousands_of_text, sign_of_text, padding_at_equal}
 use Rattle.strfmt.specs.Spec.{Spec, aligned, width_of, is_plus, is_integer_type}
 

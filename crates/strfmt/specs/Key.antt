@@ -1,5 +1,5 @@
 -- Keys that are read from the text of a pattern.
-use Rattle.std.specs.Prelude.{◌≡◌, ℕ, ◌^◌, ◌-◌, List, Bool, true, false, Option, Some, None, ◌==◌, ◌&&◌, nat_lt, length, ℤ, pos, negsuc}
+use Rattle.std.specs.Prelude.{◌≡◌, ℕ, ◌^◌, ◌-◌, List, Bool, false, Option, Some, None, ◌==◌, ◌&&◌, nat_lt, length, ℤ, pos, negsuc}
 use Rattle.std.specs.List.{list_all}
 use Rattle.std.specs.Ordering.{int_eq}
 use Rattle.std.specs.Char.{digit_value}

@@ -1,5 +1,5 @@
 -- The messages of the refusals. A character is given by its code, a text by its bytes.
-use Rattle.std.specs.Prelude.{ℕ, List, [], ◌∷◌, ◌++◌, codes, encode_utf8, Bool, false, if◌then◌else◌, ◌==◌, ◌||◌}
+use Rattle.std.specs.Prelude.{ℕ, List, [], ◌∷◌, ◌++◌, codes, encode_utf8, false, if◌then◌else◌, ◌==◌, ◌||◌}
 use Rattle.std.specs.Char.{is_ascii_control}
 use Rattle.numerals.specs.Numeral.{numeral}
 

@@ -1,5 +1,5 @@
 -- How a specification is written. All are bytes but for the fill, which is a character.
-use Rattle.std.specs.Prelude.{ℕ, ◌+◌, ◌-◌, ◌^◌, min, option_map, List, [], ◌∷◌, Bool, true, false, Option, Some, None, if◌then◌else◌, ◌==◌, is_some, slice_index, drop, take_while, length, chars}
+use Rattle.std.specs.Prelude.{ℕ, ◌-◌, ◌^◌, min, option_map, List, [], ◌∷◌, Bool, true, false, Option, Some, None, if◌then◌else◌, ◌==◌, is_some, slice_index, drop, take_while, length, chars}
 use Rattle.std.specs.Char.{is_ascii_digit, len_utf8}
 use Rattle.std.specs.Str.Parse.{digits_value}
 use Rattle.strfmt.specs.declared.types.Alignment.{Alignment}

@@ -1,5 +1,5 @@
 -- What a pattern says: its key and its specification, or its first fault.
-use Rattle.std.specs.Prelude.{◌≡◌, ◌++◌, ℕ, List, [], ◌∷◌, Bool, false, Option, Some, None, Result, Ok, Err, if◌then◌else◌, ◌==◌, ◌&&◌, not, nat_lt, is_none, unwrap_or, length, codes}
+use Rattle.std.specs.Prelude.{ℕ, List, [], ◌∷◌, Bool, false, Option, Some, None, Result, Ok, Err, if◌then◌else◌, ◌==◌, ◌&&◌, not, nat_lt, is_none, unwrap_or, length, codes}
 use Rattle.std.specs.List.{before_first, after_first, list_any}
 use Rattle.strfmt.specs.declared.types.Alignment.TheVariants.{Unspecified, Equal}
 use Rattle.strfmt.specs.declared.types.Sign.TheVariants.{Unspecified as NoSign}

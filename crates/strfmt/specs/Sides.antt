@@ -1,5 +1,5 @@
 -- How padding is shared out.
-use Rattle.std.specs.Prelude.{◌≡◌, ◌++◌, ◌+◌, ◌-◌, ◌/◌, ℕ, List, Option, Some, None, Ok, Err, replicate, encode_utf8_all}
+use Rattle.std.specs.Prelude.{◌≡◌, ◌++◌, ◌+◌, ℕ, List, Option, Some, None, Ok, Err, replicate, encode_utf8_all}
 use Rattle.strfmt.specs.declared.types.Alignment.{Alignment}
 use Rattle.strfmt.specs.Fault.{invalid}
 use Rattle.strfmt.specs.Message.{padding_at_equal}

@@ -1,8 +1,13 @@
 // Laws of what the crate prints.
 
-ghost use Rattle.strfmt.specs.Law.{FillsWidth};
+ghost use Rattle.strfmt.specs.Law.{FillsWidth, PrintsOnce};
 
 /// The field of a text and of an integer has at least its width in characters.
 pub fn field_fills_width()
     ensures { FillsWidth }
+{}
+
+/// Under one partial map from the texts of keys to meanings a text prints exactly one thing.
+pub fn text_prints_once()
+    ensures { PrintsOnce }
 {}

@@ -17,7 +17,7 @@ pub use display::DisplayStr;
 pub use fmtstr::strfmt_map;
 pub use formatter::Formatter;
 pub use key::FromKey;
-pub use law::field_fills_width;
+pub use law::{field_fills_width, text_prints_once};
 pub use map::{Format, strfmt};
 pub use types::{Alignment, FmtError, Result, Sign};
 

@@ -1,5 +1,4 @@
-use Rattle.std.proofs.Common.{◌≡◌, rules}
-use Rattle.strfmt.proofs.CutLemmas.{scanned_none, scanned_more, scanned_front, scanned_within}
+use Rattle.strfmt.proofs.CutLemmas.{scanned_none, scanned_more}
 use Rattle.strfmt.proofs.cutting.find_brace.Goals as goal
 
 pub loop-first-init : goal.loop-first-init

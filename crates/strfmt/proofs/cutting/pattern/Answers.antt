@@ -1,6 +1,5 @@
-use Rattle.std.proofs.Common.{◌≡◌, ◌≢◌, rules, length, ℕ, List}
-use Rattle.std.specs.Prelude.{slice_index}
-use Rattle.strfmt.proofs.CutLemmas.{unclosed_is, nested_is}
+use Rattle.std.proofs.Common.{rules}
+use Rattle.strfmt.proofs.CutLemmas.{unclosed_is}
 use Rattle.strfmt.proofs.cutting.pattern.Goals as goal
 
 pub returns-then-is_empty : goal.returns-then-is_empty

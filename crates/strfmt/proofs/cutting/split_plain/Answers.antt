@@ -1,4 +1,3 @@
-use Rattle.std.proofs.Common.{◌≡◌}
 use Rattle.strfmt.proofs.CutLemmas.{plain_boundary_at}
 use Rattle.strfmt.proofs.cutting.split_plain.Goals as goal
 

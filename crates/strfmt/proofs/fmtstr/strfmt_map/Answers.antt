@@ -1,4 +1,4 @@
-use Rattle.std.proofs.Common.{of_calls, ◌≡◌, ◌++◌, ◌∷◌, [], List, ℕ, ◌<◌, ◌⊎◌, inl, inr, rules, arith, string_bytes, refl, ap, ◌∙◌, Ok, Err}
+use Rattle.std.proofs.Common.{of_calls, ◌≡◌, ◌++◌, ◌∷◌, [], List, ℕ, inl, inr, rules, string_bytes, refl, ap, ◌∙◌, Ok, Err}
 use Rattle.std.specs.Prelude.{encode_utf8}
 use Rattle.std.proofs.lemmas.Str.{encode_ascii}
 use Rattle.strfmt.specs.Walk.{Walked, IsWalk, CallsAt}

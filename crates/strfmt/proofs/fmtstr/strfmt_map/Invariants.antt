@@ -1,4 +1,4 @@
-use Rattle.std.proofs.Common.{◌≡◌, length, string_bytes}
+use Rattle.std.proofs.Common.{length, string_bytes}
 use Rattle.std.specs.Prelude.{IsUtf8}
 use Rattle.strfmt.specs.Walk.{Walked, IsWalk, walked_after}
 use Rattle.strfmt.proofs.fmtstr.strfmt_map.Given as goal

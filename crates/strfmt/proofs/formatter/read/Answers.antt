@@ -1,4 +1,3 @@
-use Rattle.std.proofs.Common.{◌≡◌}
 use Rattle.strfmt.proofs.PatternLemmas.{read_spec-ok, read_spec-err_or_memory}
 use Rattle.strfmt.proofs.formatter.read.Goals as goal
 

@@ -1,4 +1,4 @@
-use Rattle.std.proofs.Common.{◌≡◌, sym, rules}
+use Rattle.std.proofs.Common.{sym}
 use Rattle.strfmt.proofs.PrintLemmas.{get_none}
 use Rattle.strfmt.proofs.map.look_up.Goals as goal
 

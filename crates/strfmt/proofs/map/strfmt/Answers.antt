@@ -1,4 +1,4 @@
-use Rattle.std.proofs.Common.{◌≡◌, rules, IfOk, IfErr, Ok, Err, List, ℕ, Option, string_bytes}
+use Rattle.std.proofs.Common.{rules, List, ℕ, Option}
 use Rattle.std.proofs.lemmas.Result.{IfOk-weaker, IfErr-weaker}
 use Rattle.strfmt.specs.Text.{Meaning}
 use Rattle.strfmt.specs.Values.{values}

@@ -1,7 +1,7 @@
-use Rattle.std.proofs.Common.{◌≡◌, rules, arith, ap, sym, ◌∙◌, ◌++◌, ◌-◌, ◌<◌, ℕ, List, length}
+use Rattle.std.proofs.Common.{◌≡◌, rules, arith, ◌∙◌, ◌++◌}
 use Rattle.std.specs.Prelude.{encode_utf8}
 use Rattle.std.specs.Str.Iter.{chars_rest}
-use Rattle.strfmt.proofs.FillLemmas.{Passed, passed_none, passed_more, passed_all, passed_take, passed_boundary}
+use Rattle.strfmt.proofs.FillLemmas.{passed_none, passed_more, passed_all, passed_take, passed_boundary}
 use Rattle.strfmt.proofs.padding.front.Goals as goal
 
 pub loop-i-init : goal.loop-i-init

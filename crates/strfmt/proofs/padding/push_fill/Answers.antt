@@ -1,5 +1,4 @@
-use Rattle.std.proofs.Common.{◌≡◌, rules, arith, ap, sym, ◌∙◌, ◌++◌, ◌+◌, ◌*◌, ℕ, List, length, append_assoc, string_bytes}
-use Rattle.std.proofs.lemmas.Grind.{common_steps}
+use Rattle.std.proofs.Common.{arith, ap, sym, ◌∙◌, ◌++◌, ℕ, List, append_assoc, string_bytes}
 use Rattle.std.specs.Prelude.{encode_utf8}
 use Rattle.std.proofs.lemmas.Str.{length-encode}
 use Rattle.strfmt.proofs.FillLemmas.{fills-more, room_left}

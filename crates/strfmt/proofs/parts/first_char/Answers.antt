@@ -1,6 +1,5 @@
-use Rattle.std.proofs.Common.{◌≡◌, ◌++◌, rules, ap, ◌∙◌, ℕ, List, Option, None, Some}
+use Rattle.std.proofs.Common.{◌≡◌, ◌++◌, rules}
 use lib.Utf8.{encode}
-use Rattle.strfmt.specs.Parts.{Part, first_char, filled_part, alignment_part}
 use Rattle.strfmt.proofs.PartLemmas.{first_char_is, filled_part-nil}
 use Rattle.strfmt.proofs.parts.first_char.Goals as goal
 

@@ -1,5 +1,5 @@
-use Rattle.std.proofs.Common.{◌≡◌, rules, arith, ap, sym, ◌∙◌, ℕ, List, Option}
-use Rattle.strfmt.specs.Parts.{Part, number_part, capped_number}
+use Rattle.std.proofs.Common.{◌≡◌, rules, ap, sym, ◌∙◌, ℕ, Option}
+use Rattle.strfmt.specs.Parts.{Part}
 use Rattle.strfmt.proofs.Numbers.{read_from, reads_number, stops, ends}
 use Rattle.strfmt.proofs.parts.number.Goals as goal
 use Rattle.strfmt.proofs.parts.number.Goals.{in-Some+then-not-is_ascii_digit, in_default}

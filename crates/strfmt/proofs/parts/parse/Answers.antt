@@ -1,4 +1,3 @@
-use Rattle.std.proofs.Common.{◌≡◌, rules, arith}
 use Rattle.strfmt.specs.Parts.{parts_of}
 use Rattle.strfmt.proofs.parts.parse.Goals as goal
 

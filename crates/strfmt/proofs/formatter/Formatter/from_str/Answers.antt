@@ -1,8 +1,6 @@
-use Rattle.std.proofs.Common.{◌≡◌, rules, ◌∙◌, ap, ℕ, List, length}
-use Rattle.std.specs.Prelude.{◌==◌, true, false, ◌⊎◌}
-use Rattle.strfmt.specs.declared.types.FmtError.TheVariants.{NoMemory}
-use Rattle.strfmt.specs.Fault.{IsRefusal}
-use Rattle.strfmt.specs.Pattern.{key_of, read_spec}
+use Rattle.std.proofs.Common.{◌≡◌, rules, length}
+use Rattle.std.specs.Prelude.{◌==◌, true, false}
+use Rattle.strfmt.specs.Pattern.{key_of}
 use Rattle.strfmt.proofs.PatternLemmas.{no_key_error, read_pattern-ok, read_pattern-err}
 use Rattle.strfmt.proofs.formatter.Formatter.from_str.Goals as goal
 

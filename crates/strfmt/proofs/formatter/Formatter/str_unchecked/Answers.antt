@@ -1,6 +1,5 @@
-use Rattle.std.proofs.Common.{rules, ◌≡◌, ◌∙◌, ap, take, arith}
+use Rattle.std.proofs.Common.{rules, ◌≡◌, ◌∙◌, ap, take}
 use Rattle.std.specs.Str.{chars}
-use Rattle.std.proofs.lemmas.Grind.{common_steps}
 use Rattle.strfmt.proofs.FillLemmas.{chars_front}
 use Rattle.strfmt.proofs.formatter.Formatter.str_unchecked.Goals as goal
 

@@ -1,5 +1,4 @@
-use Rattle.std.proofs.Common.{rules, ◌≡◌, ◌-◌, ◌∙◌, length, arith}
-use Rattle.std.proofs.lemmas.Grind.{common_steps}
+use Rattle.std.proofs.Common.{rules, ◌≡◌, ◌-◌, length}
 use Rattle.std.specs.Str.{chars}
 use Rattle.strfmt.specs.Spec.{width_of}
 use Rattle.strfmt.proofs.FillLemmas.{padded_bytes}

@@ -1,4 +1,4 @@
-use Rattle.std.proofs.Common.{◌≡◌, refl}
+use Rattle.std.proofs.Common.{refl}
 use Rattle.std.specs.Int.{w32}
 use Rattle.strfmt.proofs.KeyLemmas.{signed_key}
 use Rattle.strfmt.proofs.key.I32FromKey.from_key.Goals as goal

@@ -1,4 +1,3 @@
-use Rattle.std.proofs.Common.{◌≡◌, refl}
 use Rattle.strfmt.proofs.KeyLemmas.{unsigned_key}
 use Rattle.strfmt.proofs.key.U128FromKey.from_key.Goals as goal
 
