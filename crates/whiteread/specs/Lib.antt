@@ -1,0 +1,9 @@
+pub mod Words
+pub mod Stream
+pub mod Reading
+pub mod Reads
+pub mod Adapted
+pub mod Split
+pub mod White
+pub mod Whole
+pub mod Laws
