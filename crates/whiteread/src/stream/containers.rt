@@ -1,0 +1,1 @@
+// Optional values, and lists that go on to the end.

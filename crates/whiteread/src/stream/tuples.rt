@@ -1,0 +1,1 @@
+// Tuples, member by member.
