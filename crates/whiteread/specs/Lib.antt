@@ -2,7 +2,9 @@ pub mod Words
 pub mod Stream
 pub mod Reading
 pub mod Reads
+pub mod Tuples
 pub mod Adapted
+pub mod Found
 pub mod Split
 pub mod White
 pub mod Whole

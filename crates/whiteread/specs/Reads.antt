@@ -49,40 +49,6 @@ character = one_word FirstChar
 abbrev pub nothing : Reading (Unit {0})
 nothing = record { reads = λ words answer rest. IsOk answer × (rest ≡ words); least = 0; ends = λ value. ⊥; calls = no_call }
 
--- a value that has read something already isn't begun any more
-abbrev pub as_later : Error → Error
-as_later (TooShort progress) = TooShort Partial
-as_later Leftovers = Leftovers
-as_later ParseError = ParseError
-as_later (IoError fault) = IoError fault
-as_later NoMemory = NoMemory
-
-abbrev pub later_answer : {T : Type 0} → Result T Error → Result T Error
-later_answer (Ok value) = Ok value
-later_answer (Err why) = Err (as_later why)
-
--- the front of a tuple and then its last member, whose TooShort is Partial
-abbrev pub ReadsThen : {A B C : Type 0} → (C → A) → (C → B) → Relation A → Relation B → Relation C
-ReadsThen front last first second words (Ok value) rest = (mid : Words) × first words (Ok (front value)) mid × second mid (Ok (last value)) rest
-ReadsThen {A} front last first second words (Err why) rest = first words (Err why) rest
-    ⊎ ((value : A) × (mid : Words) × (cause : Error) × first words (Ok value) mid × second mid (Err cause) rest × (why ≡ as_later cause))
-
-abbrev pub then : {A B C : Type 0} → (C → A) → (C → B) → Reading A → Reading B → Reading C
-then front last first second = record {
-  reads = ReadsThen front last first.reads second.reads;
-  least = first.least + second.least;
-  ends = λ value. second.ends (last value);
-  calls = some_calls
-}
-
--- a value around another one
-abbrev pub ReadsAround : {T W : Type 0} → (W → T) → Relation T → Relation W
-ReadsAround inner reads words (Ok value) rest = reads words (Ok (inner value)) rest
-ReadsAround inner reads words (Err why) rest = reads words (Err why) rest
-
-abbrev pub around : {T W : Type 0} → (W → T) → Reading T → Reading W
-around inner reading = record { reads = ReadsAround inner reading.reads; least = reading.least; ends = λ value. reading.ends (inner value); calls = reading.calls }
-
 -- None exactly where the value answers TooShort(Nothing)
 abbrev pub ReadsOption : {T : Type 0} → Relation T → Relation (Option T)
 ReadsOption reads words (Ok None) rest = reads words (Err (TooShort Nothing)) rest

@@ -13,6 +13,7 @@ mod tuples;
 
 pub use error::{Error, IoFault, Progress, Result};
 pub use split::SplitAsciiWhitespace;
+pub(crate) use tuples::read_later;
 
 use std::alloc::Global;
 
