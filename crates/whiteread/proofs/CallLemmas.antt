@@ -2,10 +2,12 @@
 use Rattle.std.proofs.Common.{◌≡◌, ◌≢◌, ◌≤◌, ◌<◌, ◌+◌, ℕ, List, [], ◌∷◌, ◌++◌, length, Option, Some, None, Result, Ok, Err, refl, sym, ◌∙◌, ap, subst, inl, inr, arith, Vec}
 use Rattle.std.specs.Global.{Global}
 use Rattle.whiteread.specs.Words.{Words}
-use Rattle.whiteread.specs.Stream.{Stream, OneRises}
-use Rattle.whiteread.specs.Reading.{Relation, Reading, ReadCall, ReadsTold, LowersBy, EndsAtShort, CountsRead, StepsBy}
+use Rattle.whiteread.specs.Stream.{Stream, Answer, OneRises}
+use Rattle.whiteread.specs.Reading.{Relation, Reading, ReadCall, ReadsTold, LowersBy, EndsAtShort, CountsRead, StepsBy, Calls, no_call, one_call, some_calls}
 use Rattle.whiteread.specs.Reads.{ReadsOption, optional, ReadsEach, all_values, ReadsAll}
-use Rattle.whiteread.specs.Tuples.{ReadsThen, then}
+use Rattle.std.specs.List.{All}
+use Rattle.whiteread.specs.Tuples.{ReadsThen, then, ReadsLater, later}
+use Rattle.whiteread.specs.Adapted.{ReadsToZero, to_zero}
 use Rattle.whiteread.specs.declared.stream.error.Error.{Error}
 use Rattle.whiteread.specs.declared.stream.error.Error.TheVariants.{TooShort, Leftovers, ParseError, IoError, NoMemory}
 use Rattle.whiteread.specs.declared.stream.error.Progress.TheVariants.{Nothing, Partial}
@@ -199,4 +201,64 @@ each_no_memory {S} {T} {U} stream reading whole old mid new values value each on
   ends = tt;
   counts = counts_no_memory U (stream.faults old) (stream.faults new) (one.counts ∙ each.counts);
   step = step
+}
+
+told_nothing : {T : Type 0} (reads : Relation T) (start new : Option Words) → ReadsTold reads start (Err (TooShort Nothing)) new → ReadsTold (ReadsOption reads) start (Ok None) new
+told_nothing reads None new told = tt
+told_nothing reads (Some words) new told = told
+
+none_step : {S : Type 0} (T : Type 0) (calls : Calls) (step : S → Answer → S → Type 0) (old new : S) → StepsBy {T = T} calls step old (Err (TooShort Nothing)) new → StepsBy {T = Option T} calls step old (Ok None) new
+none_step T no_call step old new by = by
+none_step T one_call step old new by = (by.0, by.1, tt)
+none_step T some_calls step old new by = tt
+
+-- nothing of an optional value
+pub none_read : {S T : Type 0} (stream : Stream S) (reading : Reading T) (old new : S)
+    → ReadCall stream reading old (Err (TooShort Nothing)) new → ReadCall stream (optional reading) old (Ok None) new
+none_read {S} {T} stream reading old new one = record {
+  words = told_nothing reading.reads (stream.left old) (stream.left new) one.words;
+  bound = omega (arith, one.bound);
+  short = tt;
+  ends = λ _. one.short;
+  counts = one.counts;
+  step = none_step T reading.calls stream.step old new one.step
+}
+
+-- values up to the last, and the last by itself
+reads_split : {T : Type 0} (reads : Relation T) (words rest : Words) (values : List T) (last : T)
+    → ReadsEach reads words (values ++ last ∷ []) rest → (mid : Words) × ReadsEach reads words values mid × reads mid (Ok last) rest
+reads_split reads words rest [] last each = (words, refl, subst (reads words (Ok last)) (sym each.2) each.1)
+reads_split reads words rest (value ∷ values) last each =
+    let more = reads_split reads each.0 rest values last each.2 in
+    (more.0, (each.0, each.1, more.1), more.2)
+
+told_to_zero : {T W : Type 0} (items : W → List T) (zero : T → Type 0) (reads : Relation T) (start new : Option Words) (value : W) (last : T)
+    → All (λ item. ¬ (zero item)) (items value) → zero last → EachTold reads start (items value ++ last ∷ []) new → ReadsTold (ReadsToZero items zero reads) start (Ok value) new
+told_to_zero items zero reads None new value last some is each = tt
+told_to_zero items zero reads (Some words) new value last some is each =
+    let split = reads_split reads words each.0 (items value) last each.2 in
+    (each.0, each.1, (split.0, last, split.1, some, split.2, is))
+
+-- the last value is the first zero
+pub to_zero_read : {S T W : Type 0} (stream : Stream S) (items : W → List T) (zero : T → Type 0) (reading : Reading T) (old new : S) (value : W) (last : T)
+    → All (λ item. ¬ (zero item)) (items value) → zero last → EachCall stream reading old (items value ++ last ∷ []) new → stream.bound new + reading.least ≤ stream.bound old
+    → ReadCall stream (to_zero items zero reading) old (Ok value) new
+to_zero_read stream items zero reading old new value last some is each least = record {
+  words = told_to_zero items zero reading.reads (stream.left old) (stream.left new) value last some is each.words;
+  bound = least;
+  short = tt;
+  ends = λ never. absurd never;
+  counts = each.counts;
+  step = tt
+}
+
+told_value : {T : Type 0} (reads : Relation T) (start new : Option Words) (value : T) → ReadsTold (ReadsLater reads) start (Ok value) new → ReadsTold reads start (Ok value) new
+told_value reads None new value told = tt
+told_value reads (Some words) new value told = told
+
+-- a later value is a value
+pub later_value : {S T : Type 0} (stream : Stream S) (reading : Reading T) (old new : S) (value : T) → ReadCall stream (later reading) old (Ok value) new → ReadCall stream reading old (Ok value) new
+later_value {S} {T} stream reading old new value one = record {
+  words = told_value reading.reads (stream.left old) (stream.left new) value one.words;
+  bound = one.bound; short = tt; ends = one.ends; counts = one.counts; step = one.step
 }

@@ -1,3 +1,5 @@
 pub mod WordLemmas
 pub mod FoundLemmas
 pub mod CallLemmas
+pub mod NextLemmas
+pub mod SplitLemmas
