@@ -8,4 +8,6 @@ pub mod Found
 pub mod Split
 pub mod White
 pub mod Whole
+pub mod ErrorText
+pub mod LawsOfReading
 pub mod Laws

@@ -1,5 +1,5 @@
 // Streams of words, and the values that are read from them.
-ghost use Rattle.std.specs.Prelude.{◌≡◌, ◌<◌, ◌↔◌, IsTrue, codes};
+ghost use Rattle.std.specs.Prelude.{◌≡◌, ◌<◌, ◌↔◌, ℕ, List, IsTrue};
 ghost use Rattle.std.specs.Borrow.{sem};
 ghost use Rattle.std.specs.Io.BufRead.{Rests};
 ghost use Rattle.whiteread.specs.Stream.{Stream, IsStream, NextCall, answer_of};
@@ -10,6 +10,7 @@ mod error;
 mod scalars;
 mod split;
 mod tuples;
+mod white;
 
 pub use error::{Error, IoFault, Progress, Result};
 pub use split::SplitAsciiWhitespace;
@@ -31,10 +32,18 @@ pub trait StrStream {
 
 /// Splits a text at bytes of at most 0x20.
 pub trait StrExt {
-    fn split_ascii_whitespace(&self) -> SplitAsciiWhitespace<'_>;
+    ghost use Rattle.whiteread.specs.Split.{split_text, split_position};
+
+    ghost text: { Self → List ℕ };
+
+    fn split_ascii_whitespace(&self) -> SplitAsciiWhitespace<'_>
+        ensures text { split_text result ≡ text self.now }
+        ensures position { split_position result ≡ 0 };
 }
 
 impl StrExt for &str {
+    ghost text = { λ s. s.now };
+
     fn split_ascii_whitespace(&self) -> SplitAsciiWhitespace<'_> {
         SplitAsciiWhitespace::new(self)
     }
