@@ -9,7 +9,8 @@ use Rattle.std.proofs.lemmas.Str.{IsUtf8-drop, IsUtf8-past_char, encode_ascii, I
 use Rattle.std.proofs.Math.Seq.{drop-append_seam, take-append_seam}
 use Rattle.whiteread.specs.Words.{words, runs, is_blank, EndsRun}
 use Rattle.whiteread.specs.Found.{FindsWord, NextWord}
-use Rattle.whiteread.proofs.WordLemmas.{Test, pass-head, pass-tail, pass-cons, pass-nil, runs-gap, runs-run, runs-none}
+use Rattle.whiteread.specs.WordLaws.{Test, pass-head, pass-tail, pass-cons, pass-nil}
+use Rattle.whiteread.proofs.WordLemmas.{runs-gap, runs-run}
 
 -- the longest front that passes, and what follows it
 pub record Front (p : Test) (xs : List ℕ) : Type 0 where

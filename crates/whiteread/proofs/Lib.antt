@@ -3,3 +3,4 @@ pub mod FoundLemmas
 pub mod CallLemmas
 pub mod NextLemmas
 pub mod SplitLemmas
+pub mod WhiteLemmas

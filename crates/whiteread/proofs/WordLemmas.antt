@@ -1,46 +1,21 @@
 -- Runs of a list: past a gap, at a run, and none where all is blank.
 use Rattle.std.proofs.Common.{◌≡◌, ◌≤◌, ◌<◌, ◌+◌, ℕ, suc, zero, Bool, true, false, not, cond, List, [], ◌∷◌, ◌++◌, length, drop, take, refl, sym, ◌∙◌, ap, subst, arith, append_assoc}
 use Rattle.std.specs.Prelude.{filter}
-use Rattle.std.specs.List.{All, AllPass, take_while}
-use Rattle.std.proofs.lemmas.Bool.{cond-true, cond-false, not-true}
-use Rattle.std.proofs.lemmas.List.Elements.{All-head, All-tail, All-cons, All-nil}
+use Rattle.std.specs.List.{AllPass}
+use Rattle.std.proofs.lemmas.Bool.{cond-false, not-true}
+use Rattle.whiteread.specs.WordLaws.{Test, pass-head, pass-tail, pass-cons, pass-nil, pieces-blank, runs-blank, runs-none}
 use Rattle.whiteread.specs.Words.{Words, words, runs, pieces, onto_first, is_blank, is_filled, EndsRun, AreLongestRuns}
-
-abbrev pub Test : Type 0
-Test = ℕ → Bool
 
 abbrev not-blank : Test → Test
 not-blank blank x = not (blank x)
 
-pub pass-head : (p : Test) (x : ℕ) (xs : List ℕ) → AllPass p (x ∷ xs) → p x ≡ true
-pass-head p x xs all = All-head (λ y. p y ≡ true) x xs all
-
-pub pass-tail : (p : Test) (x : ℕ) (xs : List ℕ) → AllPass p (x ∷ xs) → AllPass p xs
-pass-tail p x xs all = All-tail (λ y. p y ≡ true) x xs all
-
-pub pass-cons : (p : Test) (x : ℕ) (xs : List ℕ) → p x ≡ true → AllPass p xs → AllPass p (x ∷ xs)
-pass-cons p x xs h all = All-cons (λ y. p y ≡ true) x xs h all
-
-pub pass-nil : (p : Test) → AllPass p []
-pass-nil p = All-nil (λ y. p y ≡ true)
-
-pieces-blank : (blank : Test) (x : ℕ) (xs : List ℕ) → blank x ≡ true → pieces blank (x ∷ xs) ≡ [] ∷ pieces blank xs
-pieces-blank blank x xs h = cond-true (blank x) ([] ∷ pieces blank xs) (onto_first x (pieces blank xs)) h
-
 pieces-word : (blank : Test) (x : ℕ) (xs : List ℕ) → blank x ≡ false → pieces blank (x ∷ xs) ≡ onto_first x (pieces blank xs)
 pieces-word blank x xs h = cond-false (blank x) ([] ∷ pieces blank xs) (onto_first x (pieces blank xs)) h
-
-pub runs-blank : (blank : Test) (x : ℕ) (xs : List ℕ) → blank x ≡ true → runs blank (x ∷ xs) ≡ runs blank xs
-runs-blank blank x xs h = ap (filter is_filled) (pieces-blank blank x xs h)
 
 -- a gap holds no run
 pub runs-gap : (blank : Test) (gap xs : List ℕ) → AllPass blank gap → runs blank (gap ++ xs) ≡ runs blank xs
 runs-gap blank [] xs all = refl
 runs-gap blank (x ∷ gap) xs all = runs-blank blank x (gap ++ xs) (pass-head blank x gap all) ∙ runs-gap blank gap xs (pass-tail blank x gap all)
-
-pub runs-none : (blank : Test) (xs : List ℕ) → AllPass blank xs → runs blank xs ≡ []
-runs-none blank [] all = refl
-runs-none blank (x ∷ xs) all = runs-blank blank x xs (pass-head blank x xs all) ∙ runs-none blank xs (pass-tail blank x xs all)
 
 pieces-run : (blank : Test) (run rest : List ℕ) (more : Words) → AllPass (λ x. not (blank x)) run → pieces blank rest ≡ [] ∷ more → pieces blank (run ++ rest) ≡ run ∷ more
 pieces-run blank [] rest more all h = h

@@ -10,4 +10,5 @@ pub mod White
 pub mod Whole
 pub mod ErrorText
 pub mod LawsOfReading
+pub mod WordLaws
 pub mod Laws

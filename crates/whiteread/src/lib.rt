@@ -24,3 +24,6 @@ pub fn parse_string<T: FromStream>(alloc: Global, s: &str) -> stream::Result<T>
     }
     Ok(value)
 }
+
+#[cfg(test)]
+mod tests;

@@ -1,6 +1,6 @@
 // The words of std's `split_whitespace`.
-ghost use Rattle.whiteread.specs.White.{white_words_left, WhiteStep, GivesWhite, white_stream};
-ghost use Rattle.whiteread.specs.Laws.{told_is_stream};
+ghost use Rattle.whiteread.specs.White.{GivesWhite, white_stream};
+ghost use Rattle.whiteread.specs.WordLaws.{white_is_stream};
 
 use crate::stream::{Result, StrStream};
 use std::mem;
@@ -18,7 +18,7 @@ fn step<'a>(words: SplitWhitespace<'a>) -> (Option<&'a str>, SplitWhitespace<'a>
 impl StrStream for SplitWhitespace<'_> {
     ghost stream = { white_stream };
 
-    ghost is_stream = { told_is_stream white_words_left WhiteStep };
+    ghost is_stream = { white_is_stream };
 
     fn next(&mut self) -> Result<Option<&str>> {
         let words = mem::replace(self, "".split_whitespace());
