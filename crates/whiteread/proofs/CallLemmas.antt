@@ -1,8 +1,8 @@
 -- Calls of `read`, one after another.
-use Rattle.std.proofs.Common.{◌≡◌, ◌≢◌, ◌≤◌, ◌<◌, ◌+◌, ℕ, List, [], ◌∷◌, ◌++◌, length, Option, Some, None, Result, Ok, Err, refl, sym, ◌∙◌, ap, subst, inl, inr, arith, Vec}
+use Rattle.std.proofs.Common.{◌≡◌, ◌≢◌, ◌≤◌, ◌<◌, ◌+◌, ℕ, Bool, true, false, ◌||◌, IsTrue, List, [], ◌∷◌, ◌++◌, length, Option, Some, None, Result, Ok, Err, refl, sym, ◌∙◌, ap, subst, inl, inr, arith, Vec}
 use Rattle.std.specs.Global.{Global}
 use Rattle.whiteread.specs.Words.{Words}
-use Rattle.whiteread.specs.Stream.{Stream, Answer, OneRises}
+use Rattle.whiteread.specs.Stream.{Stream, Answer, OnNoMemory}
 use Rattle.whiteread.specs.Reading.{Relation, Reading, ReadCall, ReadsTold, LowersBy, EndsAtShort, CountsRead, StepsBy, Calls, no_call, one_call, some_calls}
 use Rattle.whiteread.specs.Reads.{ReadsOption, optional, ReadsEach, all_values, ReadsAll}
 use Rattle.std.specs.List.{All}
@@ -52,6 +52,24 @@ short_refusal T U ParseError at_end short = tt
 short_refusal T U (IoError fault) at_end short = tt
 short_refusal T U NoMemory at_end short = tt
 
+-- memory is wanted by one or by the other
+pub memory_first : (A B : Type 0) (why : Error) (first second stream : Bool) → OnNoMemory {T = A} (Err why) (IsTrue (first || stream)) → OnNoMemory {T = B} (Err why) (IsTrue ((first || second) || stream))
+memory_first A B (TooShort progress) first second stream memory = tt
+memory_first A B Leftovers first second stream memory = tt
+memory_first A B ParseError first second stream memory = tt
+memory_first A B (IoError fault) first second stream memory = tt
+memory_first A B NoMemory true second stream memory = refl
+memory_first A B NoMemory false true stream memory = refl
+memory_first A B NoMemory false false stream memory = memory
+
+pub memory_second : (A B : Type 0) (why : Error) (first second stream : Bool) → OnNoMemory {T = A} (Err why) (IsTrue (second || stream)) → OnNoMemory {T = B} (Err why) (IsTrue ((first || second) || stream))
+memory_second A B (TooShort progress) first second stream memory = tt
+memory_second A B Leftovers first second stream memory = tt
+memory_second A B ParseError first second stream memory = tt
+memory_second A B (IoError fault) first second stream memory = tt
+memory_second A B NoMemory true second stream memory = refl
+memory_second A B NoMemory false second stream memory = memory
+
 -- counts that stood still before are counts from the start
 pub counts_from : {T : Type 0} (old mid : Counts) (answer : Result T Error) (new : Counts) → mid ≡ old → CountsRead mid answer new → CountsRead old answer new
 counts_from old mid answer new is counts = subst (λ (c : Counts). CountsRead c answer new) is counts
@@ -76,7 +94,8 @@ then_refused {S} {A} {B} {C} stream front last first second old mid new value wh
   short = short_refusal B C why (stream.at_end new) two.short;
   ends = tt;
   counts = counts_refusal B C (stream.faults old) why (stream.faults new) (counts_from {T = B} (stream.faults old) (stream.faults mid) (Err why) (stream.faults new) one.counts two.counts);
-  step = tt
+  step = tt;
+  memory = memory_second B C why first.allocates second.allocates stream.allocates two.memory;
 }
 
 told_refused_first : {A B C : Type 0} (front : C → A) (last : C → B) (first : Relation A) (second : Relation B) (start : Option Words) (why : Error) (new : Option Words)
@@ -93,7 +112,8 @@ then_refused_first {S} {A} {B} {C} stream front last first second old new why on
   short = short_refusal A C why (stream.at_end new) one.short;
   ends = tt;
   counts = counts_refusal A C (stream.faults old) why (stream.faults new) one.counts;
-  step = tt
+  step = tt;
+  memory = memory_first A C why first.allocates second.allocates stream.allocates one.memory;
 }
 
 told_both : {A B C : Type 0} (front : C → A) (last : C → B) (first : Relation A) (second : Relation B) (start mid : Option Words) (value : C) (new : Option Words)
@@ -112,7 +132,8 @@ then_read stream front last first second old mid new value one two = record {
   short = tt;
   ends = two.ends;
   counts = two.counts ∙ one.counts;
-  step = tt
+  step = tt;
+  memory = tt;
 }
 
 -- ---- values one after another
@@ -151,56 +172,7 @@ pub each_more : {S T : Type 0} (stream : Stream S) (reading : Reading T) (old mi
 each_more stream reading old mid new values value each one = record {
   words = each_told_more reading.reads (stream.left old) (stream.left mid) (stream.left new) values value each.words one.words;
   bound = omega (arith, each.bound, one.bound);
-  counts = one.counts ∙ each.counts
-}
-
-told_all : {T : Type 0} (reads : Relation T) (start mid new : Option Words) (values : Vec T Global)
-    → EachTold reads start values.items mid → ReadsTold reads mid (Err (TooShort Nothing)) new → ReadsTold (ReadsAll reads) start (Ok values) new
-told_all reads None mid new values each end = tt
-told_all reads (Some words) mid new values each end =
-    let end = told_at reads mid each.0 (Err (TooShort Nothing)) new each.1 end in
-    (end.0, end.1, (each.0, each.2, end.2))
-
--- the next value would begin past the end
-pub all_ended : {S T : Type 0} (stream : Stream S) (reading : Reading T) (old mid new : S) (values : Vec T Global)
-    → EachCall stream reading old values.items mid → ReadCall stream reading mid (Err (TooShort Nothing)) new → ReadCall stream (all_values reading) old (Ok values) new
-all_ended stream reading old mid new values each end = record {
-  words = told_all reading.reads (stream.left old) (stream.left mid) (stream.left new) values each.words end.words;
-  bound = omega (arith, each.bound, end.bound);
-  short = tt;
-  ends = λ _. end.short;
-  counts = end.counts ∙ each.counts;
-  step = tt
-}
-
-told_all_refused : {T : Type 0} (reads : Relation T) (start mid new : Option Words) (values : List T) (why : Error) → why ≢ TooShort Nothing
-    → EachTold reads start values mid → ReadsTold reads mid (Err why) new → ReadsTold (ReadsAll reads) start (Err why) new
-told_all_refused reads None mid new values why other each end = told_none (ReadsAll reads) (Err why) new
-told_all_refused reads (Some words) mid new values why other each end =
-    told_refusal reads (ReadsAll reads) each.0 words why new (λ rest read. (other, (values, each.0, each.2, read))) (told_at reads mid each.0 (Err why) new each.1 end)
-
--- a value is refused for another cause
-pub all_refused : {S T : Type 0} (stream : Stream S) (reading : Reading T) (old mid new : S) (values : List T) (why : Error) → why ≢ TooShort Nothing
-    → EachCall stream reading old values mid → ReadCall stream reading mid (Err why) new → ReadCall stream (all_values reading) old (Err why) new
-all_refused {S} {T} stream reading old mid new values why other each end = record {
-  words = told_all_refused reading.reads (stream.left old) (stream.left mid) (stream.left new) values why other each.words end.words;
-  bound = omega (arith, each.bound, end.bound);
-  short = short_refusal T (Vec T Global) why (stream.at_end new) end.short;
-  ends = tt;
-  counts = counts_refusal T (Vec T Global) (stream.faults old) why (stream.faults new) (counts_from {T = T} (stream.faults old) (stream.faults mid) (Err why) (stream.faults new) each.counts end.counts);
-  step = tt
-}
-
--- there is no memory for one more value
-pub each_no_memory : {S T U : Type 0} (stream : Stream S) (reading : Reading T) (whole : Reading U) (old mid new : S) (values : List T) (value : T)
-    → EachCall stream reading old values mid → ReadCall stream reading mid (Ok value) new → StepsBy {T = U} whole.calls stream.step old (Err NoMemory) new → ReadCall stream whole old (Err NoMemory) new
-each_no_memory {S} {T} {U} stream reading whole old mid new values value each one step = record {
-  words = told_no_memory whole.reads (stream.left old) (stream.left new);
-  bound = omega (arith, each.bound, one.bound);
-  short = tt;
-  ends = tt;
-  counts = counts_no_memory U (stream.faults old) (stream.faults new) (one.counts ∙ each.counts);
-  step = step
+  counts = one.counts ∙ each.counts;
 }
 
 told_nothing : {T : Type 0} (reads : Relation T) (start new : Option Words) → ReadsTold reads start (Err (TooShort Nothing)) new → ReadsTold (ReadsOption reads) start (Ok None) new
@@ -221,7 +193,8 @@ none_read {S} {T} stream reading old new one = record {
   short = tt;
   ends = λ _. one.short;
   counts = one.counts;
-  step = none_step T reading.calls stream.step old new one.step
+  step = none_step T reading.calls stream.step old new one.step;
+  memory = tt;
 }
 
 -- values up to the last, and the last by itself
@@ -249,7 +222,8 @@ to_zero_read stream items zero reading old new value last some is each least = r
   short = tt;
   ends = λ never. absurd never;
   counts = each.counts;
-  step = tt
+  step = tt;
+  memory = tt;
 }
 
 told_value : {T : Type 0} (reads : Relation T) (start new : Option Words) (value : T) → ReadsTold (ReadsLater reads) start (Ok value) new → ReadsTold reads start (Ok value) new
@@ -260,5 +234,10 @@ told_value reads (Some words) new value told = told
 pub later_value : {S T : Type 0} (stream : Stream S) (reading : Reading T) (old new : S) (value : T) → ReadCall stream (later reading) old (Ok value) new → ReadCall stream reading old (Ok value) new
 later_value {S} {T} stream reading old new value one = record {
   words = told_value reading.reads (stream.left old) (stream.left new) value one.words;
-  bound = one.bound; short = tt; ends = one.ends; counts = one.counts; step = one.step
+  bound = one.bound;
+  short = tt;
+  ends = one.ends;
+  counts = one.counts;
+  step = one.step;
+  memory = tt;
 }

@@ -9,7 +9,7 @@ use Rattle.std.proofs.lemmas.Str.{IsUtf8-drop, IsUtf8-past_char, encode_ascii, I
 use Rattle.std.proofs.Math.Seq.{drop-append_seam, take-append_seam}
 use Rattle.whiteread.specs.Words.{words, runs, is_blank, EndsRun}
 use Rattle.whiteread.specs.Found.{FindsWord, NextWord}
-use Rattle.whiteread.specs.WordLaws.{Test, pass-head, pass-tail, pass-cons, pass-nil}
+use Rattle.whiteread.specs.WordProofs.{Test, pass-head, pass-tail, pass-cons, pass-nil}
 use Rattle.whiteread.proofs.WordLemmas.{runs-gap, runs-run}
 
 -- the longest front that passes, and what follows it
@@ -25,13 +25,21 @@ pub front_of : (p : Test) (xs : List ℕ) → Front p xs
 front_of p [] = record { front = []; rest = []; split = refl; passes = pass-nil p; ends = tt; is = refl }
 front_of p (x ∷ xs) =
     elim (p x) as (λ b. p x ≡ b → Front p (x ∷ xs)) [
-      true ↦ λ h. let f : Front p xs = front_of p xs in record {
-        front = x ∷ f.front; rest = f.rest; split = ap (λ l. x ∷ l) f.split; passes = pass-cons p x f.front h f.passes; ends = f.ends;
-        is = take_while-cons p x xs ∙ cond-true (p x) _ _ h ∙ ap (λ l. x ∷ l) f.is
+      | true ↦ λ h. let f : Front p xs = front_of p xs in record {
+        front = x ∷ f.front;
+        rest = f.rest;
+        split = ap (λ l. x ∷ l) f.split;
+        passes = pass-cons p x f.front h f.passes;
+        ends = f.ends;
+        is = take_while-cons p x xs ∙ cond-true (p x) _ _ h ∙ ap (λ l. x ∷ l) f.is;
       }
-    | false ↦ λ h. record {
-        front = []; rest = x ∷ xs; split = refl; passes = pass-nil p; ends = ap not h;
-        is = take_while-cons p x xs ∙ cond-false (p x) _ _ h
+      | false ↦ λ h. record {
+        front = [];
+        rest = x ∷ xs;
+        split = refl;
+        passes = pass-nil p;
+        ends = ap not h;
+        is = take_while-cons p x xs ∙ cond-false (p x) _ _ h;
       }
     ] refl
 
@@ -106,19 +114,22 @@ found text from start end utf8 le boundary start_is end_is =
     let stop : EndsRun is_blank run.rest = ends_twice run.rest run.ends in
     record {
       word = λ some.
-      subst (λ w. FindsWord text from w end) (sym slice)
-      record {
-        gap = gap.front; blanks = gap.passes; stands = stands; end = omega (arith, end_at, start_at);
-        first = ap words (gap.split ∙ ap (λ l. gap.front ++ l) run.split) ∙ runs-gap is_blank gap.front (run.front ++ run.rest) gap.passes
-        ∙ runs-run is_blank run.front run.rest (omega (arith, end_at)) run.passes stop ∙ ap (λ l. run.front ∷ words l) (sym at_end)
-      };
+          subst (λ w. FindsWord text from w end) (sym slice)
+          record {
+            gap = gap.front;
+            blanks = gap.passes;
+            stands = stands;
+            end = omega (arith, end_at, start_at);
+            first = ap words (gap.split ∙ ap (λ l. gap.front ++ l) run.split) ∙ runs-gap is_blank gap.front (run.front ++ run.rest) gap.passes
+                ∙ runs-run is_blank run.front run.rest (omega (arith, end_at)) run.passes stop ∙ ap (λ l. run.front ∷ words l) (sym at_end);
+          };
       none = λ nothing.
-      let empty : gap.rest ≡ [] = no_word gap.rest run.front run.rest run.split gap.ends run.ends (omega (arith, end_at)) in
-      (ap words (gap.split ∙ ap (λ l. gap.front ++ l) empty) ∙ runs-gap is_blank gap.front [] gap.passes, omega (arith, length-drop from text, ap length gap.split, length-append gap.front gap.rest, ap length empty, start_at, end_at));
+          let empty : gap.rest ≡ [] = no_word gap.rest run.front run.rest run.split gap.ends run.ends (omega (arith, end_at)) in
+          (ap words (gap.split ∙ ap (λ l. gap.front ++ l) empty) ∙ runs-gap is_blank gap.front [] gap.passes, omega (arith, length-drop from text, ap length gap.split, length-append gap.front gap.rest, ap length empty, start_at, end_at));
       begins = IsCharBoundary-from_drop text start (omega (arith, long, end_at)) (subst IsUtf8 (sym at_start) (past_blanks gap.front gap.rest (subst IsUtf8 gap.split (IsUtf8-drop text from utf8 boundary)) gap.passes));
       ends = end_boundary text end run.rest long at_end stop;
       order = omega (arith, end_at);
-      within = omega (arith, long)
+      within = omega (arith, long);
     }
 
 -- what is counted in `&bytes[from..]` is counted from the place on

@@ -12,14 +12,16 @@ told_call left step old None new by takes = record {
   bound = let e : left new ≡ [] = let some = takes.1 in cc in omega (arith, ap (λ (w : Words). length w) e);
   end = let some = takes.1 in cc;
   counts = refl;
-  step = by
+  step = by;
+  memory = tt;
 }
 told_call left step old (Some word) new by takes = record {
   words = takes;
   bound = let e : left new ≡ takes.0 = let some = takes.2 in cc in omega (arith, ap (λ (w : Words). length w) e, ap (λ (w : Words). length w) takes.1);
   end = tt;
   counts = refl;
-  step = by
+  step = by;
+  memory = tt;
 }
 
 abbrev pub SkipsTold : Option Words → Option Words → Type 0

@@ -12,7 +12,7 @@ use Rattle.std.proofs.lemmas.Str.{IsUtf8-from_is_utf8, is_utf8-from_IsUtf8, cons
 use Rattle.whiteread.specs.Words.{Words, white_words, runs, EndsRun}
 use Rattle.whiteread.specs.Stream.{TakesFirst}
 use Rattle.whiteread.specs.White.{white_words_left, WhiteStep, GivesWhite}
-use Rattle.whiteread.specs.WordLaws.{pass-nil, pass-cons, all_white, no_word}
+use Rattle.whiteread.specs.WordProofs.{pass-nil, pass-cons, all_white, no_word}
 use Rattle.whiteread.proofs.WordLemmas.{runs-gap, runs-run}
 
 none_white : (cs : List ℕ) → NonePass is_whitespace cs → AllPass (λ c. not (is_whitespace c)) cs
@@ -52,30 +52,31 @@ takes_word text gap word rest more utf8 is some blank none starts =
     let scalar : all_scalars second.0 ≡ true =
     scalars_after none.0 second.0 (scalars_after blank.0 (none.0 ++ second.0) (ap all_scalars (sym parts) ∙ scalars-chars text utf8)) in
     let rest_chars : chars rest ≡ second.0 = ap chars (sym second.2) ∙ chars-encodes second.0 scalar in
-    let filled : 0 < length none.0 = filled_of none.0 word none.1 some in
-    ((second.0, (scalar, second.2)),
+    let filled : 0 < length none.0 = filled_of none.0 word none.1 some in (
+      (second.0, (scalar, second.2)),
       ap (λ cs. map encode_utf8_all (runs is_whitespace cs)) parts
-      ∙ ap (map encode_utf8_all) (runs-gap is_whitespace blank.0 (none.0 ++ second.0) (all_white blank.0 blank.2) ∙ runs-run is_whitespace none.0 second.0 filled (none_white none.0 none.2) (ends_run second.0 rest more second.2 starts))
-      ∙ ap (λ w. w ∷ map encode_utf8_all (runs is_whitespace second.0)) none.1
-      ∙ ap (λ cs. word ∷ map encode_utf8_all (runs is_whitespace cs)) (sym rest_chars)) where
-  filled_of : (cs word : List ℕ) → encode_utf8_all cs ≡ word → 0 < length word → 0 < length cs
-  filled_of [] word is some = absurd (omega (arith, ap length is, some))
-  filled_of (c ∷ cs) word is some = omega arith
+          ∙ ap (map encode_utf8_all) (runs-gap is_whitespace blank.0 (none.0 ++ second.0) (all_white blank.0 blank.2) ∙ runs-run is_whitespace none.0 second.0 filled (none_white none.0 none.2) (ends_run second.0 rest more second.2 starts))
+          ∙ ap (λ w. w ∷ map encode_utf8_all (runs is_whitespace second.0)) none.1
+          ∙ ap (λ cs. word ∷ map encode_utf8_all (runs is_whitespace cs)) (sym rest_chars),
+    ) where
+      filled_of : (cs word : List ℕ) → encode_utf8_all cs ≡ word → 0 < length word → 0 < length cs
+      filled_of [] word is some = absurd (omega (arith, ap length is, some))
+      filled_of (c ∷ cs) word is some = omega arith
 
 takes_none : (text : List ℕ) → NoCharPasses is_not_whitespace text → TakesFirst (cond (is_utf8 text) (Some (white_words text)) None) (Ok None) (cond (is_utf8 text) (Some (white_words text)) None)
 takes_none text none =
     elim (is_utf8 text) as (λ b. is_utf8 text ≡ b → TakesFirst (cond b (Some (white_words text)) None) (Ok None) (cond b (Some (white_words text)) None)) [
-      true ↦ λ h. let empty = no_word text (IsUtf8-from_is_utf8 text h) none in (empty, ap Some empty)
-    | false ↦ λ h. tt
+      | true ↦ λ h. let empty = no_word text (IsUtf8-from_is_utf8 text h) none in (empty, ap Some empty)
+      | false ↦ λ h. tt
     ] refl
 
 takes_some : (text word rest : List ℕ) → (IsUtf8 text → IsUtf8 rest × (white_words text ≡ word ∷ white_words rest))
     → TakesFirst (cond (is_utf8 text) (Some (white_words text)) None) (Ok (Some word)) (cond (is_utf8 rest) (Some (white_words rest)) None)
 takes_some text word rest parts =
     elim (is_utf8 text) as (λ b. is_utf8 text ≡ b → TakesFirst (cond b (Some (white_words text)) None) (Ok (Some word)) (cond (is_utf8 rest) (Some (white_words rest)) None)) [
-      true ↦ λ h. let both = parts (IsUtf8-from_is_utf8 text h) in
-      (white_words rest, both.1, cond-true (is_utf8 rest) (Some (white_words rest)) None (is_utf8-from_IsUtf8 rest both.0))
-    | false ↦ λ h. tt
+      | true ↦ λ h. let both = parts (IsUtf8-from_is_utf8 text h) in
+          (white_words rest, both.1, cond-true (is_utf8 rest) (Some (white_words rest)) None (is_utf8-from_IsUtf8 rest both.0))
+      | false ↦ λ h. tt
     ] refl
 
 pub gives_white : (old : SplitWhitespace) (found : Option (Bor (List ℕ))) (new : SplitWhitespace) → split_whitespace_steps old found new → GivesWhite old found new
@@ -84,13 +85,15 @@ gives_white old None new step = subst (λ s. GivesWhite old None s) (sym step.0)
   bound = omega arith;
   end = step.1;
   counts = refl;
-  step = tt
+  step = tt;
+  memory = tt;
 }
 gives_white old (Some word) new step = record {
   words = takes_some (split_whitespace_rest old) word.now (split_whitespace_rest new)
-  (λ utf8. takes_word (split_whitespace_rest old) step.0 word.now (split_whitespace_rest new) step.5.0 utf8 step.1 step.2 step.3 step.4 step.5.1);
+      (λ utf8. takes_word (split_whitespace_rest old) step.0 word.now (split_whitespace_rest new) step.5.0 utf8 step.1 step.2 step.3 step.4 step.5.1);
   bound = omega (arith, ap length step.1, length-append step.0 (word.now ++ split_whitespace_rest new), length-append word.now (split_whitespace_rest new), step.2);
   end = tt;
   counts = refl;
-  step = tt
+  step = tt;
+  memory = tt;
 }

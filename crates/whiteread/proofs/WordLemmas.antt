@@ -3,7 +3,7 @@ use Rattle.std.proofs.Common.{◌≡◌, ◌≤◌, ◌<◌, ◌+◌, ℕ, suc, 
 use Rattle.std.specs.Prelude.{filter}
 use Rattle.std.specs.List.{AllPass}
 use Rattle.std.proofs.lemmas.Bool.{cond-false, not-true}
-use Rattle.whiteread.specs.WordLaws.{Test, pass-head, pass-tail, pass-cons, pass-nil, pieces-blank, runs-blank, runs-none}
+use Rattle.whiteread.specs.WordProofs.{Test, pass-head, pass-tail, pass-cons, pass-nil, pieces-blank, runs-blank, runs-none}
 use Rattle.whiteread.specs.Words.{Words, words, runs, pieces, onto_first, is_blank, is_filled, EndsRun, AreLongestRuns}
 
 abbrev not-blank : Test → Test
@@ -56,16 +56,27 @@ first : (blank : Test) (xs : List ℕ) → First blank xs
 first blank [] = record { piece = []; more = []; rest = []; is = refl; split = refl; none = pass-nil (not-blank blank); ends = tt; later = refl; shorter = omega arith }
 first blank (x ∷ xs) =
     elim (blank x) as (λ b. blank x ≡ b → First blank (x ∷ xs)) [
-      true ↦ λ h. record {
-        piece = []; more = pieces blank xs; rest = x ∷ xs; is = pieces-blank blank x xs h; split = refl; none = pass-nil (not-blank blank); ends = h;
-        later = sym (runs-blank blank x xs h); shorter = omega arith
+      | true ↦ λ h. record {
+        piece = [];
+        more = pieces blank xs;
+        rest = x ∷ xs;
+        is = pieces-blank blank x xs h;
+        split = refl;
+        none = pass-nil (not-blank blank);
+        ends = h;
+        later = sym (runs-blank blank x xs h);
+        shorter = omega arith;
       }
-    | false ↦ λ h. let f : First blank xs = first blank xs in record {
-        piece = x ∷ f.piece; more = f.more; rest = f.rest;
+      | false ↦ λ h. let f : First blank xs = first blank xs in record {
+        piece = x ∷ f.piece;
+        more = f.more;
+        rest = f.rest;
         is = pieces-word blank x xs h ∙ ap (onto_first x) f.is;
         split = ap (λ l. x ∷ l) f.split;
         none = pass-cons (not-blank blank) x f.piece (ap not h) f.none;
-        ends = f.ends; later = f.later; shorter = omega (arith, f.shorter)
+        ends = f.ends;
+        later = f.later;
+        shorter = omega (arith, f.shorter);
       }
     ] refl
 
@@ -79,13 +90,13 @@ runs-are-within blank n [] small = pass-nil blank
 runs-are-within blank zero (x ∷ xs) small = absurd (omega (arith, small))
 runs-are-within blank (suc n) (x ∷ xs) small =
     elim (blank x) as (λ b. blank x ≡ b → AreLongestRuns blank (x ∷ xs) (runs blank (x ∷ xs))) [
-      true ↦ λ h. subst (AreLongestRuns blank (x ∷ xs)) (sym (runs-blank blank x xs h)) (wider blank x xs (runs blank xs) h (runs-are-within blank n xs (omega (arith, small))))
-    | false ↦ λ h.
-        let f : First blank xs = first blank xs in
-        let is : runs blank (x ∷ xs) ≡ (x ∷ f.piece) ∷ runs blank f.rest =
-        ap (filter is_filled) (pieces-word blank x xs h ∙ ap (onto_first x) f.is) ∙ ap (λ w. (x ∷ f.piece) ∷ w) f.later in
-        subst (AreLongestRuns blank (x ∷ xs)) (sym is)
-        ([], f.rest, ap (λ l. x ∷ l) f.split, pass-nil blank, omega arith, pass-cons (not-blank blank) x f.piece (ap not h) f.none, f.ends, runs-are-within blank n f.rest (omega (arith, small, f.shorter)))
+      | true ↦ λ h. subst (AreLongestRuns blank (x ∷ xs)) (sym (runs-blank blank x xs h)) (wider blank x xs (runs blank xs) h (runs-are-within blank n xs (omega (arith, small))))
+      | false ↦ λ h.
+          let f : First blank xs = first blank xs in
+          let is : runs blank (x ∷ xs) ≡ (x ∷ f.piece) ∷ runs blank f.rest =
+          ap (filter is_filled) (pieces-word blank x xs h ∙ ap (onto_first x) f.is) ∙ ap (λ w. (x ∷ f.piece) ∷ w) f.later in
+          subst (AreLongestRuns blank (x ∷ xs)) (sym is)
+          ([], f.rest, ap (λ l. x ∷ l) f.split, pass-nil blank, omega arith, pass-cons (not-blank blank) x f.piece (ap not h) f.none, f.ends, runs-are-within blank n f.rest (omega (arith, small, f.shorter)))
     ] refl
 
 -- the runs are the longest runs

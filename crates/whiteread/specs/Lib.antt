@@ -9,6 +9,6 @@ pub mod Split
 pub mod White
 pub mod Whole
 pub mod ErrorText
-pub mod LawsOfReading
-pub mod WordLaws
 pub mod Laws
+pub mod ReadingProofs
+pub mod WordProofs

@@ -1,7 +1,7 @@
 -- What reading a type means, and what a call of its `read` does to a stream.
-use Rattle.std.specs.Prelude.{◌≡◌, ℕ, ◌+◌, ◌≤◌, List, ◌++◌, length, Option, Some, None, Result, Ok, Err, IfOk, ⊤}
+use Rattle.std.specs.Prelude.{◌≡◌, ℕ, ◌+◌, ◌≤◌, List, ◌++◌, length, Bool, IsTrue, ◌||◌, Option, Some, None, Result, Ok, Err, IfOk, ⊤}
 use Rattle.whiteread.specs.Words.{Words}
-use Rattle.whiteread.specs.Stream.{Stream, Answer, OneRises}
+use Rattle.whiteread.specs.Stream.{Stream, Answer, OneRises, OnNoMemory}
 use Rattle.whiteread.specs.declared.stream.error.Error.{Error}
 use Rattle.whiteread.specs.declared.stream.error.Error.TheVariants.{TooShort, Leftovers, ParseError, IoError, NoMemory}
 use Rattle.whiteread.specs.declared.stream.error.IoFault.{IoFault}
@@ -26,6 +26,8 @@ pub record Reading (T : Type 0) : Type 1 where
   pub ends : T → Type 0
   -- how often it calls `next`
   pub calls : Calls
+  -- whether it may want memory of its own
+  pub allocates : Bool
 
 -- a front of the words was taken, and by an Ok at least so many
 abbrev pub TakesFront : {T : Type 0} → ℕ → Words → Result T Error → Words → Type 0
@@ -92,3 +94,4 @@ pub record ReadCall {S T : Type 0} (stream : Stream S) (reading : Reading T) (ol
   pub ends : IfOk answer (λ value. reading.ends value → stream.at_end new)
   pub counts : CountsRead (stream.faults old) answer (stream.faults new)
   pub step : StepsBy reading.calls stream.step old answer new
+  pub memory : OnNoMemory answer (IsTrue (reading.allocates || stream.allocates))

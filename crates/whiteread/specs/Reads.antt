@@ -1,5 +1,5 @@
 -- What each type reads.
-use Rattle.std.specs.Prelude.{◌≡◌, ◌≢◌, ℕ, ◌+◌, ℤ, Bool, List, [], ◌∷◌, ◌++◌, ◌⊎◌, Option, Some, None, Result, Ok, Err, IfErr, IsOk, IsOkAnd, MatchResult, String, Vec, string_bytes, encode_utf8, ⊤}
+use Rattle.std.specs.Prelude.{◌≡◌, ◌≢◌, ℕ, ◌+◌, ℤ, Bool, true, false, List, [], ◌∷◌, ◌++◌, ◌⊎◌, Option, Some, None, Result, Ok, Err, IfErr, IsOk, IsOkAnd, MatchResult, String, Vec, string_bytes, encode_utf8, ⊤}
 use Rattle.std.specs.Global.{Global}
 use Rattle.std.specs.Str.Parse.{ParsesUnsigned, ParsesSigned, ParsesBool}
 use mir.Syntax.{Width}
@@ -15,7 +15,7 @@ ReadsWord rule [] answer rest = (answer ≡ Err (TooShort Nothing)) × (rest ≡
 ReadsWord rule (word ∷ words) answer rest = rule word answer × IfErr answer (λ why. why ≡ ParseError) × (rest ≡ words)
 
 abbrev pub one_word : {T : Type 0} → (List ℕ → Result T Error → Type 0) → Reading T
-one_word rule = record { reads = ReadsWord rule; least = 1; ends = λ value. ⊥; calls = one_call }
+one_word rule = record { reads = ReadsWord rule; least = 1; ends = λ value. ⊥; calls = one_call; allocates = false }
 
 -- the rule of a type that std can parse
 abbrev pub parsed : {T E : Type 0} → (List ℕ → Result T E → Type 0) → List ℕ → Result T Error → Type 0
@@ -34,9 +34,9 @@ signed width = one_word (ParsesSigned width 10)
 abbrev pub boolean : Reading Bool
 boolean = one_word ParsesBool
 
--- any word
+-- any word, which is copied
 abbrev pub any_word : Reading (String Global)
-any_word = one_word (λ word answer. IsOkAnd answer (λ text. string_bytes text ≡ word))
+any_word = record (one_word (λ word answer. IsOkAnd answer (λ text. string_bytes text ≡ word))) { allocates = true }
 
 -- c is the first character of the word, or the word is empty, which no word of this crate's streams is
 abbrev pub FirstChar : List ℕ → Result ℕ Error → Type 0
@@ -47,7 +47,7 @@ character = one_word FirstChar
 
 -- no word at all
 abbrev pub nothing : Reading (Unit {0})
-nothing = record { reads = λ words answer rest. IsOk answer × (rest ≡ words); least = 0; ends = λ value. ⊥; calls = no_call }
+nothing = record { reads = λ words answer rest. IsOk answer × (rest ≡ words); least = 0; ends = λ value. ⊥; calls = no_call; allocates = false }
 
 -- None exactly where the value answers TooShort(Nothing)
 abbrev pub ReadsOption : {T : Type 0} → Relation T → Relation (Option T)
@@ -61,7 +61,7 @@ EndsOption ends None = ⊤
 EndsOption ends (Some value) = ends value
 
 abbrev pub optional : {T : Type 0} → Reading T → Reading (Option T)
-optional reading = record { reads = ReadsOption reading.reads; least = 0; ends = EndsOption reading.ends; calls = reading.calls }
+optional reading = record { reads = ReadsOption reading.reads; least = 0; ends = EndsOption reading.ends; calls = reading.calls; allocates = reading.allocates }
 
 -- these values, one after another
 abbrev pub ReadsEach : {T : Type 0} → Relation T → Words → List T → Words → Type 0
@@ -74,4 +74,4 @@ ReadsAll reads words (Ok values) rest = (mid : Words) × ReadsEach reads words v
 ReadsAll {T} reads words (Err why) rest = (why ≢ TooShort Nothing) × ((values : List T) × (mid : Words) × ReadsEach reads words values mid × reads mid (Err why) rest)
 
 abbrev pub all_values : {T : Type 0} → Reading T → Reading (Vec T Global)
-all_values reading = record { reads = ReadsAll reading.reads; least = 0; ends = λ values. ⊤; calls = some_calls }
+all_values reading = record { reads = ReadsAll reading.reads; least = 0; ends = λ values. ⊤; calls = some_calls; allocates = true }

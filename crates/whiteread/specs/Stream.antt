@@ -1,5 +1,5 @@
 -- What a stream of words means, and what a call of its `next` does.
-use Rattle.std.specs.Prelude.{◌≡◌, ◌≢◌, ℕ, ◌<◌, ◌≤◌, List, [], ◌∷◌, length, Option, Some, None, Result, Ok, Err, ⊤}
+use Rattle.std.specs.Prelude.{◌≡◌, ◌≢◌, ℕ, ◌<◌, ◌≤◌, List, [], ◌∷◌, length, Bool, false, IsTrue, Option, Some, None, Result, Ok, Err, ⊤}
 use denote.Ref.{Bor}
 use Rattle.edge_io.specs.Ends.{Rises}
 use Rattle.whiteread.specs.Words.{Words}
@@ -28,20 +28,23 @@ pub record Stream (S : Type 0) : Type 1 where
   pub step : S → Answer → S → Type 0
   -- how often each fault was met
   pub faults : S → IoFault → ℕ
+  -- whether a call of `next` may want memory
+  pub allocates : Bool
 
 -- told words are no more than the bound, and a stream at its end has none
 pub record IsStream {S : Type 0} (stream : Stream S) : Type 0 where
   pub within : (s : S) (words : Words) → stream.left s ≡ Some words → length words ≤ stream.bound s
   pub none_at_end : (s : S) (words : Words) → stream.at_end s → stream.left s ≡ Some words → words ≡ []
 
--- a stream whose words are told, and which meets no fault
+-- a stream whose words are told, which meets no fault and takes no memory
 abbrev pub told_stream : {S : Type 0} → (S → Words) → (S → Answer → S → Type 0) → Stream S
 told_stream left step = record {
   left = λ s. Some (left s);
   bound = λ s. length (left s);
   at_end = λ s. left s ≡ [];
   step = step;
-  faults = λ s fault. 0
+  faults = λ s fault. 0;
+  allocates = false;
 }
 
 -- where words are told, a word that is lent is the first of them, and None comes only where there is none
@@ -77,6 +80,15 @@ CountsNext old (Err ParseError) new = ⊥
 CountsNext old (Err (IoError fault)) new = OneRises fault old new
 CountsNext old (Err NoMemory) new = new ≡ old
 
+-- want of memory is answered only where this holds
+abbrev pub OnNoMemory : {T : Type 0} → Result T Error → Type 0 → Type 0
+OnNoMemory (Ok value) may = ⊤
+OnNoMemory (Err (TooShort progress)) may = ⊤
+OnNoMemory (Err Leftovers) may = ⊤
+OnNoMemory (Err ParseError) may = ⊤
+OnNoMemory (Err (IoError fault)) may = ⊤
+OnNoMemory (Err NoMemory) may = may
+
 -- what a call of `next` does
 pub record NextCall {S : Type 0} (stream : Stream S) (old : S) (answer : Answer) (new : S) : Type 0 where
   pub words : TakesFirst (stream.left old) answer (stream.left new)
@@ -84,3 +96,4 @@ pub record NextCall {S : Type 0} (stream : Stream S) (old : S) (answer : Answer)
   pub end : EndsAtNone answer (stream.at_end new)
   pub counts : CountsNext (stream.faults old) answer (stream.faults new)
   pub step : stream.step old answer new
+  pub memory : OnNoMemory answer (IsTrue stream.allocates)

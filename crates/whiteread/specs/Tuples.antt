@@ -1,5 +1,5 @@
 -- What tuples read: their members in order.
-use Rattle.std.specs.Prelude.{◌≡◌, ◌+◌, ◌⊎◌, Result, Ok, Err}
+use Rattle.std.specs.Prelude.{◌≡◌, ◌+◌, ◌⊎◌, ◌||◌, Result, Ok, Err}
 use Rattle.whiteread.specs.Words.{Words}
 use Rattle.whiteread.specs.Reading.{Relation, Reading, some_calls}
 use Rattle.whiteread.specs.declared.stream.error.Error.{Error}
@@ -12,7 +12,7 @@ ReadsAround inner reads words (Ok value) rest = reads words (Ok (inner value)) r
 ReadsAround inner reads words (Err why) rest = reads words (Err why) rest
 
 abbrev pub around : {T W : Type 0} → (W → T) → Reading T → Reading W
-around inner reading = record { reads = ReadsAround inner reading.reads; least = reading.least; ends = λ value. reading.ends (inner value); calls = reading.calls }
+around inner reading = record { reads = ReadsAround inner reading.reads; least = reading.least; ends = λ value. reading.ends (inner value); calls = reading.calls; allocates = reading.allocates }
 
 -- a value that was begun finds too little only for its rest
 abbrev pub as_later : Error → Error
@@ -41,7 +41,8 @@ then front last first second = record {
   reads = ReadsThen front last first.reads second.reads;
   least = first.least + second.least;
   ends = λ value. second.ends (last value);
-  calls = some_calls
+  calls = some_calls;
+  allocates = first.allocates || second.allocates;
 }
 
 -- the members of a tuple in order

@@ -1,6 +1,6 @@
 // Laws that no call carries.
 ghost use Rattle.whiteread.specs.Words.{words, is_blank};
-ghost use Rattle.whiteread.specs.LawsOfReading.{IsOnlyRuns, NoneAtNothing, TakesAWord};
+ghost use Rattle.whiteread.specs.Laws.{IsOnlyRuns, NoneAtNothing, TakesAWord};
 
 use crate::stream::{Eats, FromStream};
 
@@ -14,11 +14,9 @@ pub fn words_are_longest_runs(text: &str)
 /// `Option<T>` gives None exactly where `T` answers `TooShort(Nothing)`.
 pub fn none_is_nothing<T: FromStream>()
     ensures { NoneAtNothing T.reading.reads ⟦<Option<T> as FromStream>⟧.reading.reads }
-{
-}
+{}
 
 /// An Ok of a type with `Eats` takes at least one word.
 pub fn eats_a_word<T: Eats>()
     ensures { TakesAWord T.reading.reads }
-{
-}
+{}

@@ -8,14 +8,13 @@ pub mod adapters;
 pub mod laws;
 pub mod stream;
 
-pub use stream::FromStream;
-
 use std::alloc::Global;
+pub use stream::FromStream;
 use stream::{Error, SplitAsciiWhitespace, StrStream};
 
 /// Reads a value from the whole text. It answers `Leftovers` where a word is left.
 pub fn parse_string<T: FromStream>(alloc: Global, s: &str) -> stream::Result<T>
-    ensures { ReadsWhole T.reading.reads (words s.now) result }
+    ensures { ReadsWhole T.reading (words s.now) result }
 {
     let mut words = SplitAsciiWhitespace::new(s);
     let value = T::read(alloc, &mut words)?;

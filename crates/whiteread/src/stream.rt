@@ -14,9 +14,8 @@ mod white;
 
 pub use error::{Error, IoFault, Progress, Result};
 pub use split::SplitAsciiWhitespace;
-pub(crate) use tuples::read_later;
-
 use std::alloc::Global;
+pub(crate) use tuples::read_later;
 
 /// A stream of words. `next` lends the next word, or answers None at the end.
 pub trait StrStream {

@@ -112,7 +112,7 @@ impl<'a> Iterator for SplitAsciiWhitespace<'a> {
 
 impl StrStream for SplitAsciiWhitespace<'_> {
     ghost use Rattle.whiteread.specs.Split.{words_left, SplitStep, split_stream};
-    ghost use Rattle.whiteread.specs.Laws.{told_is_stream};
+    ghost use Rattle.whiteread.specs.ReadingProofs.{told_is_stream};
 
     ghost stream = { split_stream };
 

@@ -1,7 +1,7 @@
 // Tuples, member by member.
 ghost use Rattle.whiteread.specs.Reading.{ReadCall};
 ghost use Rattle.whiteread.specs.Tuples.{around, later, pair, triple, quadruple, quintuple, sextuple};
-ghost use Rattle.whiteread.specs.Laws.{around_front, pair_front, triple_front, quadruple_front, quintuple_front, sextuple_front, eats_pair, eats_triple, eats_quadruple, eats_quintuple, eats_sextuple};
+ghost use Rattle.whiteread.specs.ReadingProofs.{around_front, pair_front, triple_front, quadruple_front, quintuple_front, sextuple_front, eats_pair, eats_triple, eats_quadruple, eats_quintuple, eats_sextuple};
 
 use crate::stream::{Eats, Error, FromStream, IsZero, Progress, Result, StrStream};
 use std::alloc::Global;
@@ -118,7 +118,8 @@ impl<A: IsZero, B: IsZero, C: IsZero, D: IsZero> IsZero for (A, B, C, D) {
     }
 }
 
-impl<A: FromStream, B: FromStream, C: FromStream, D: FromStream, E: FromStream> FromStream for (A, B, C, D, E) {
+impl<A: FromStream, B: FromStream, C: FromStream, D: FromStream, E: FromStream> FromStream
+    for (A, B, C, D, E) {
     const REQUEST_CHEAP_ERROR: bool = false;
 
     ghost reading = { quintuple A.reading B.reading C.reading D.reading E.reading };
@@ -140,11 +141,22 @@ impl<A: IsZero, B: IsZero, C: IsZero, D: IsZero, E: IsZero> IsZero for (A, B, C,
     ghost zero = { λ all. A.zero all.0 × B.zero all.1 × C.zero all.2 × D.zero all.3 × E.zero all.4 };
 
     fn is_zero(&self) -> bool {
-        self.0.is_zero() && self.1.is_zero() && self.2.is_zero() && self.3.is_zero() && self.4.is_zero()
+        self.0.is_zero()
+            && self.1.is_zero()
+            && self.2.is_zero()
+            && self.3.is_zero()
+            && self.4.is_zero()
     }
 }
 
-impl<A: FromStream, B: FromStream, C: FromStream, D: FromStream, E: FromStream, F: FromStream> FromStream for (A, B, C, D, E, F) {
+impl<
+    A: FromStream,
+    B: FromStream,
+    C: FromStream,
+    D: FromStream,
+    E: FromStream,
+    F: FromStream,
+> FromStream for (A, B, C, D, E, F) {
     const REQUEST_CHEAP_ERROR: bool = false;
 
     ghost reading = { sextuple A.reading B.reading C.reading D.reading E.reading F.reading };
@@ -158,14 +170,21 @@ impl<A: FromStream, B: FromStream, C: FromStream, D: FromStream, E: FromStream, 
     }
 }
 
-impl<A: Eats, B: FromStream, C: FromStream, D: FromStream, E: FromStream, F: FromStream> Eats for (A, B, C, D, E, F) {
+impl<A: Eats, B: FromStream, C: FromStream, D: FromStream, E: FromStream, F: FromStream> Eats
+    for (A, B, C, D, E, F) {
     ghost eats = { eats_sextuple A.reading B.reading C.reading D.reading E.reading F.reading A.eats };
 }
 
-impl<A: IsZero, B: IsZero, C: IsZero, D: IsZero, E: IsZero, F: IsZero> IsZero for (A, B, C, D, E, F) {
+impl<A: IsZero, B: IsZero, C: IsZero, D: IsZero, E: IsZero, F: IsZero> IsZero
+    for (A, B, C, D, E, F) {
     ghost zero = { λ all. A.zero all.0 × B.zero all.1 × C.zero all.2 × D.zero all.3 × E.zero all.4 × F.zero all.5 };
 
     fn is_zero(&self) -> bool {
-        self.0.is_zero() && self.1.is_zero() && self.2.is_zero() && self.3.is_zero() && self.4.is_zero() && self.5.is_zero()
+        self.0.is_zero()
+            && self.1.is_zero()
+            && self.2.is_zero()
+            && self.3.is_zero()
+            && self.4.is_zero()
+            && self.5.is_zero()
     }
 }

@@ -7,5 +7,5 @@ values-preserved g c =
     let grown : c.push.new.self.items ≡ c.values.values.items ++ c.in_ok-value.value ∷ [] = search rules in
     record {
       each = rw grown (each_more _ _ _ _ _ _ _ c.values.invariant.each c.in_ok-value.ensures);
-      within = omega (arith, ap length grown, length-append c.values.values.items (c.in_ok-value.value ∷ []))
+      within = omega (arith, ap length grown, length-append c.values.values.items (c.in_ok-value.value ∷ []));
     }

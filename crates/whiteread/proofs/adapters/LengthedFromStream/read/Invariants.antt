@@ -6,7 +6,7 @@ use Rattle.whiteread.proofs.adapters.LengthedFromStream.read.Given as goal
 abbrev pub invariant-values : goal.invariant-values
 invariant-values g l = record {
   each : EachCall g.I.StrStream.stream (later g.T.FromStream.reading) l.initial.it l.values.items l.it;
-  within : length l.values.items ≤ l.count
+  within : length l.values.items ≤ l.count;
 }
 
 abbrev pub decreases-values : goal.decreases-values

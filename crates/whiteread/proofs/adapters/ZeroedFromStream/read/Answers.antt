@@ -13,7 +13,7 @@ values-preserved g c =
     record {
       each = rw grown (each_more _ _ _ _ _ _ _ c.values.invariant.each (later_value _ _ _ _ _ c.in_ok-value-2.ensures));
       some = rw grown (All-append (λ item. ¬ (zero item)) c.values.values.items (c.values.value ∷ []) c.values.invariant.some (All-cons (λ item. ¬ (zero item)) c.values.value [] some (All-nil (λ item. ¬ (zero item)))));
-      least = omega (arith, c.values.invariant.least, c.in_ok-value-2.ensures.bound)
+      least = omega (arith, c.values.invariant.least, c.in_ok-value-2.ensures.bound);
     }
 
 pub returns : goal.returns

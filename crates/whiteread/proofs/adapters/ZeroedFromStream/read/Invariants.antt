@@ -7,7 +7,7 @@ abbrev pub invariant-values : goal.invariant-values
 invariant-values g l = record {
   each : EachCall g.I.StrStream.stream g.T.FromStream.reading l.fn.it (l.values.items ++ l.value ∷ []) l.it;
   some : All (λ item. ¬ (g.T.IsZero.zero item)) l.values.items;
-  least : g.I.StrStream.stream.bound l.it + g.T.FromStream.reading.least ≤ g.I.StrStream.stream.bound l.fn.it
+  least : g.I.StrStream.stream.bound l.it + g.T.FromStream.reading.least ≤ g.I.StrStream.stream.bound l.fn.it;
 }
 
 abbrev pub decreases-values : goal.decreases-values

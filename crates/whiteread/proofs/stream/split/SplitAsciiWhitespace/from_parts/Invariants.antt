@@ -7,7 +7,7 @@ invariant-steps l = record {
   after : l.fn.position ≤ l.position;
   past : length l.s < l.fn.position → l.position ≡ l.fn.position;
   within : l.fn.position ≤ length l.s → l.position ≤ length l.s;
-  first : (place : ℕ) → l.fn.position ≤ place → place < l.position → IsCharBoundary l.s place → ⊥
+  first : (place : ℕ) → l.fn.position ≤ place → place < l.position → IsCharBoundary l.s place → ⊥;
 }
 
 abbrev pub decreases-steps : goal.decreases-steps

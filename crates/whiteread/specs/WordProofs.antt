@@ -59,8 +59,8 @@ runs_short : (blank : Test) (xs : List ℕ) → length (runs blank xs) ≤ lengt
 runs_short blank [] = omega arith
 runs_short blank (x ∷ xs) =
     elim (blank x) as (λ b. length (filter is_filled (cond b ([] ∷ pieces blank xs) (onto_first x (pieces blank xs)))) ≤ length (x ∷ xs)) [
-      true ↦ omega (arith, runs_short blank xs)
-    | false ↦ omega (arith, runs_short blank xs, runs_onto x (pieces blank xs))
+      | true ↦ omega (arith, runs_short blank xs)
+      | false ↦ omega (arith, runs_short blank xs, runs_onto x (pieces blank xs))
     ]
 
 white_short : (text : List ℕ) → IsUtf8 text → length (white_words text) ≤ length text
@@ -71,16 +71,16 @@ white_short text utf8 =
 told_words : (text : List ℕ) (words : Words) → cond (is_utf8 text) (Some (white_words text)) None ≡ Some words → IsUtf8 text × (white_words text ≡ words)
 told_words text words told =
     elim (is_utf8 text) as (λ b. is_utf8 text ≡ b → cond b (Some (white_words text)) None ≡ Some words → IsUtf8 text × (white_words text ≡ words)) [
-      true ↦ λ h is. (IsUtf8-from_is_utf8 text h, let e : white_words text ≡ words = cc in e)
-    | false ↦ λ h is. absurd (let e = is in cc)
+      | true ↦ λ h is. (IsUtf8-from_is_utf8 text h, let e : white_words text ≡ words = cc in e)
+      | false ↦ λ h is. absurd (let e = is in cc)
     ] refl told
 
 pub white_is_stream : IsStream white_stream
 white_is_stream = record {
   within = λ s words told.
-  let both = told_words (split_whitespace_rest s) words told in
-  omega (arith, white_short (split_whitespace_rest s) both.0, ap (λ (w : Words). length w) both.1);
+      let both = told_words (split_whitespace_rest s) words told in
+      omega (arith, white_short (split_whitespace_rest s) both.0, ap (λ (w : Words). length w) both.1);
   none_at_end = λ s words end told.
-  let both = told_words (split_whitespace_rest s) words told in
-  sym both.1 ∙ no_word (split_whitespace_rest s) both.0 end
+      let both = told_words (split_whitespace_rest s) words told in
+      sym both.1 ∙ no_word (split_whitespace_rest s) both.0 end;
 }
