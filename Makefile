@@ -14,7 +14,6 @@ SOURCES := $(wildcard crates.txt crates/*/src/*.rt crates/*/specs/*.antt crates/
 all: build/reformat
 
 build/reformat: $(SOURCES)
-	$(RT) all check
 	cd crates/reformat_cli && $(RT) run -- rewrite <stdin >out/run.stdout && cmp stdout out/run.stdout
 	mkdir -p build
 	cp crates/reformat_cli/out/reformat_cli build/reformat
