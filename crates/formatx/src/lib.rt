@@ -1,0 +1,13 @@
+//! Rust-like templates: a template is parsed once and rendered over values of the caller's.
+#![tactic(auto)]
+
+mod ast;
+mod error;
+mod value;
+
+pub use ast::{
+    Align, Argument, Count, CountParam, FormatSpec, FormatString, FormatType, Placeholder,
+    Precision, Segment, Sign, Span,
+};
+pub use error::Error;
+pub use value::{DebugStyle, FormatValue, Name, Shape};
