@@ -37,6 +37,11 @@ Tells (MissingArgument name s) r = r ≡ Err (missing (string_bytes name) s)
 Tells (UnsupportedTrait t s) r = r ≡ Err (unsupported t s)
 Tells NoMemory r = ⊤
 
+-- the answer is what the definition gives, or there was no memory
+abbrev pub Answers : {A : Type 0} → Result A Error → Result A Fault → Type 0
+Answers (Ok a) r = r ≡ Ok a
+Answers (Err e) r = Tells e r
+
 -- the name of a type's trait
 abbrev pub trait_text : FormatType → List ℕ
 trait_text Octal = codes "Octal"

@@ -1,5 +1,5 @@
 -- Where the parts of a template stand in its source.
-use Rattle.std.specs.Prelude.{◌≡◌, ◌≤◌, ℕ, ◌+◌, List, [], ◌∷◌, All, length, Option, Some, None, false, MatchOption, ⊤}
+use Rattle.std.specs.Prelude.{◌≡◌, ◌≤◌, ◌<◌, ℕ, ◌+◌, List, [], ◌∷◌, All, length, Option, Some, None, false, MatchOption, ⊤}
 use Rattle.std.specs.Str.{IsCharBoundary}
 use Rattle.formatx.specs.declared.ast.Span.{Span}
 use Rattle.formatx.specs.declared.ast.FormatSpec.{FormatSpec}
@@ -35,12 +35,16 @@ abbrev pub PrecisionFits : List ℕ → Precision → Type 0
 PrecisionFits source (Counted c) = CountFits source c
 PrecisionFits source Star = ⊤
 
+-- the names in a specification fit the text
+pub record SpecFits (source : List ℕ) (spec : FormatSpec) : Type 0 where
+  pub width : MatchOption spec.width ⊤ (CountFits source)
+  pub precision : MatchOption spec.precision ⊤ (PrecisionFits source)
+
 -- each span of the placeholder fits the text
 pub record PlaceholderFits (source : List ℕ) (p : Placeholder) : Type 0 where
   pub whole : SpanFits source p.span
   pub argument : ArgumentFits source p.argument
-  pub width : MatchOption p.spec.width ⊤ (CountFits source)
-  pub precision : MatchOption p.spec.precision ⊤ (PrecisionFits source)
+  pub spec : SpecFits source p.spec
 
 abbrev pub SegmentFits : List ℕ → Segment → Type 0
 SegmentFits source (Literal s) = SpanFits source s
@@ -58,6 +62,13 @@ StandsAt i j (Literal s) = (s.start ≡ i) × (s.end ≡ j)
 StandsAt i j EscapedOpen = j ≡ i + 2
 StandsAt i j EscapedClose = j ≡ i + 2
 StandsAt i j (Placed p) = (p.span.start ≡ i) × (p.span.end ≡ j)
+
+-- the segment stands at place i, and ends between characters at place j
+pub record IsPlaced (source : List ℕ) (i j : ℕ) (segment : Segment) : Type 0 where
+  pub fits : SegmentFits source segment
+  pub at : StandsAt i j segment
+  pub to : IsCharBoundary source j
+  pub grows : i < j
 
 -- the segments stand one right after another, from place i up to the end of the source
 abbrev pub Tiles : ℕ → ℕ → List Segment → Type 0

@@ -3,6 +3,7 @@
 
 mod ast;
 mod error;
+mod parser;
 mod value;
 
 pub use ast::{
@@ -10,4 +11,5 @@ pub use ast::{
     Precision, Segment, Sign, Span,
 };
 pub use error::Error;
+pub use parser::parse;
 pub use value::{DebugStyle, FormatValue, Name, Shape};
