@@ -73,7 +73,7 @@ number_count_at source i j =
     else (number_between source i j (codes "invalid count: ") >>= λ n. Ok (Some (Literal n), j))
 
 -- a count: digits, digits and `$`, or an identifier and `$`
-abbrev pub count_at : List ℕ → ℕ → Result (Option Count × ℕ) Fault
+unfoldable pub count_at : List ℕ → ℕ → Result (Option Count × ℕ) Fault
 count_at source i =
     let name_end = run_end is_word source i in
     if is_ascii_digit (slice_index source i) then number_count_at source i (run_end is_ascii_digit source i) else
@@ -87,7 +87,7 @@ counted_precision_at source q (Some n, j) = Ok (Some (Counted n), j)
 counted_precision_at source q (None, j) = unreadable_at q (q + 1) (codes "expected precision value after `.`")
 
 -- `.` and a count, or `.*`
-abbrev pub precision_at : List ℕ → ℕ → Result (Option Precision × ℕ) Fault
+unfoldable pub precision_at : List ℕ → ℕ → Result (Option Precision × ℕ) Fault
 precision_at source q =
     if not (has source q (byte ".")) then Ok (None, q) else
     (if ends_at source (q + 1) then unreadable_at q (q + 1) (codes "expected precision after `.`") else
@@ -99,7 +99,7 @@ abbrev pub hex_at : List ℕ → ℕ → FormatType → FormatType → FormatTyp
 hex_at source i hex debug = if has source (i + 1) (byte "?") then (debug, i + 2) else (hex, i + 1)
 
 -- a type; none where `}` or the end stands
-abbrev pub type_at : List ℕ → ℕ → Result (FormatType × ℕ) Fault
+unfoldable pub type_at : List ℕ → ℕ → Result (FormatType × ℕ) Fault
 type_at source i =
     let c = slice_index source i in
     if ends_at source i || c == byte "}" then Ok (Display, i) else

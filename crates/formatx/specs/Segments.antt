@@ -18,7 +18,7 @@ abbrev pub follows_argument : List ℕ → ℕ → Bool
 follows_argument source i = has source i (byte "}") || has source i (byte ":")
 
 -- an argument: nothing, digits or an identifier
-abbrev pub argument_at : List ℕ → ℕ → Result (Argument × ℕ) Fault
+unfoldable pub argument_at : List ℕ → ℕ → Result (Argument × ℕ) Fault
 argument_at source i =
     let digits_end = run_end is_ascii_digit source i in
     let name_end = run_end is_word source i in
@@ -35,7 +35,7 @@ abbrev pub no_options : FormatSpec
 no_options = record { fill = None; align = None; sign = None; alternate = false; zero_pad = false; width = None; precision = None; format_type = Display }
 
 -- the parts of a specification in their order
-abbrev pub options_at : List ℕ → ℕ → Result (FormatSpec × ℕ) Fault
+unfoldable pub options_at : List ℕ → ℕ → Result (FormatSpec × ℕ) Fault
 options_at source i =
     let filled = fill_align_at source i in
     let signed = sign_at source filled.2 in
@@ -47,7 +47,7 @@ options_at source i =
     Ok (record { fill = filled.0; align = filled.1; sign = signed.0; alternate = alternate.0; zero_pad = zeroed.0; width = width.0; precision = precise.0; format_type = typed.0 }, typed.1)
 
 -- `:` and a specification, if it is there
-abbrev pub spec_at : List ℕ → ℕ → Result (FormatSpec × ℕ) Fault
+unfoldable pub spec_at : List ℕ → ℕ → Result (FormatSpec × ℕ) Fault
 spec_at source i = if has source i (byte ":") then options_at source (i + 1) else Ok (no_options, i)
 
 -- the `}` of the placeholder whose `{` stands at place p
@@ -58,7 +58,7 @@ closed_at source p argument (spec, i) =
     else unreadable_at p i (codes "unmatched `{`")
 
 -- the placeholder whose `{` stands at place p
-abbrev pub placeholder_at : List ℕ → ℕ → Result (Segment × ℕ) Fault
+unfoldable pub placeholder_at : List ℕ → ℕ → Result (Segment × ℕ) Fault
 placeholder_at source p =
     argument_at source (p + 1) >>= λ argument.
     spec_at source argument.1 >>= λ spec.

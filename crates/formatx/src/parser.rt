@@ -44,10 +44,11 @@ fn digits_end(source: &str, at: usize) -> usize
     requires { at ≤ length source.now }
     ensures end { result ≡ run_end is_ascii_digit source.now at }
     ensures within { result ≤ length source.now }
+    ensures onward { at ≤ result }
     ensures boundary { IsCharBoundary source.now at → IsCharBoundary source.now result }
 {
     let rest = &source.as_bytes()[at..];
-    at + rest.iter().take_while(|byte| byte.is_ascii_digit()).count()
+    at + rest.iter().position(|byte| !byte.is_ascii_digit()).unwrap_or(rest.len())
 }
 
 fn is_word(byte: u8) -> bool
@@ -67,9 +68,10 @@ fn word_end(source: &str, at: usize) -> usize
     requires { at ≤ length source.now }
     ensures end { result ≡ run_end is_word source.now at }
     ensures within { result ≤ length source.now }
+    ensures onward { at ≤ result }
 {
     let rest = &source.as_bytes()[at..];
-    at + rest.iter().take_while(|byte| is_word(**byte)).count()
+    at + rest.iter().position(|byte| !is_word(*byte)).unwrap_or(rest.len())
 }
 
 fn is_plain(byte: u8) -> bool
@@ -86,7 +88,7 @@ fn plain_end(source: &str, at: usize) -> usize
     ensures grows { at < length source.now → IsTrue (is_plain (slice_index source.now at)) → at < result }
 {
     let rest = &source.as_bytes()[at..];
-    at + rest.iter().take_while(|byte| is_plain(**byte)).count()
+    at + rest.iter().position(|byte| !is_plain(*byte)).unwrap_or(rest.len())
 }
 
 fn is_type_start(byte: u8) -> bool
@@ -168,6 +170,7 @@ fn fill_align_at(source: &str, at: usize) -> (Option<char>, Option<Align>, usize
     requires boundary { IsCharBoundary source.now at }
     ensures value { result ≡ fill_align_at source.now at }
     ensures within { result.2 ≤ length source.now }
+    ensures onward { at ≤ result.2 }
 {
     if ends_at(source, at) || has(source, at, b'}') {
         return (None, None, at);
@@ -187,6 +190,7 @@ fn sign_at(source: &str, at: usize) -> (Option<Sign>, usize)
     requires { at ≤ length source.now }
     ensures value { result ≡ sign_at source.now at }
     ensures within { result.1 ≤ length source.now }
+    ensures onward { at ≤ result.1 }
 {
     if has(source, at, b'+') {
         (Some(Sign::Plus), at + 1)
@@ -201,6 +205,7 @@ fn alternate_at(source: &str, at: usize) -> (bool, usize)
     requires { at ≤ length source.now }
     ensures value { result ≡ alternate_at source.now at }
     ensures within { result.1 ≤ length source.now }
+    ensures onward { at ≤ result.1 }
 {
     if has(source, at, b'#') {
         (true, at + 1)
@@ -213,6 +218,7 @@ fn zero_at(source: &str, at: usize) -> (bool, usize)
     requires { at ≤ length source.now }
     ensures value { result ≡ zero_at source.now at }
     ensures within { result.1 ≤ length source.now }
+    ensures onward { at ≤ result.1 }
 {
     if !has(source, at, b'0') {
         return (false, at);
@@ -247,10 +253,12 @@ fn number_between(alloc: Global, source: &str, start: usize, end: usize, words: 
 // Digits as a count, or as the position of one.
 fn number_count_at(alloc: Global, source: &str, start: usize, end: usize) -> Result<(Option<Count>, usize), Error>
     requires ordered { start ≤ end }
+    requires inside { end ≤ length source.now }
     requires from { IsCharBoundary source.now start }
     requires to { IsCharBoundary source.now end }
     ensures value { Answers result (number_count_at source.now start end) }
     ensures within { IfOk result (λ r. r.1 ≤ length source.now) }
+    ensures onward { IfOk result (λ r. end ≤ r.1) }
     ensures fits { IfOk result (λ r. MatchOption r.0 ⊤ (CountFits source.now)) }
 {
     if has(source, end, b'$') {
@@ -262,10 +270,12 @@ fn number_count_at(alloc: Global, source: &str, start: usize, end: usize) -> Res
     }
 }
 
+#[tactic(auto, unfolding(crate::specs::Options::count_at))]
 fn count_at(alloc: Global, source: &str, at: usize) -> Result<(Option<Count>, usize), Error>
     requires { at ≤ length source.now }
     ensures value { Answers result (count_at source.now at) }
     ensures within { IfOk result (λ r. r.1 ≤ length source.now) }
+    ensures onward { IfOk result (λ r. at ≤ r.1) }
     ensures fits { IfOk result (λ r. MatchOption r.0 ⊤ (CountFits source.now)) }
 {
     let first = byte_at(source, at);
@@ -281,10 +291,12 @@ fn count_at(alloc: Global, source: &str, at: usize) -> Result<(Option<Count>, us
     }
 }
 
+#[tactic(auto, unfolding(crate::specs::Options::precision_at))]
 fn precision_at(alloc: Global, source: &str, at: usize) -> Result<(Option<Precision>, usize), Error>
     requires { at ≤ length source.now }
     ensures value { Answers result (precision_at source.now at) }
     ensures within { IfOk result (λ r. r.1 ≤ length source.now) }
+    ensures onward { IfOk result (λ r. at ≤ r.1) }
     ensures fits { IfOk result (λ r. MatchOption r.0 ⊤ (PrecisionFits source.now)) }
 {
     if !has(source, at, b'.') {
@@ -308,6 +320,7 @@ fn hex_at(source: &str, at: usize, hex: FormatType, debug: FormatType) -> (Forma
     requires { at < length source.now }
     ensures value { result ≡ hex_at source.now at hex debug }
     ensures within { result.1 ≤ length source.now }
+    ensures onward { at ≤ result.1 }
 {
     if has(source, at + 1, b'?') {
         (debug, at + 2)
@@ -328,10 +341,12 @@ fn refuse_type<T>(alloc: Global, at: usize, byte: u8) -> Result<T, Error>
     refuse_text(alloc, at, at + 1, "unknown format type: ", character.as_str())
 }
 
+#[tactic(auto, unfolding(crate::specs::Options::type_at))]
 fn type_at(alloc: Global, source: &str, at: usize) -> Result<(FormatType, usize), Error>
     requires { at ≤ length source.now }
     ensures value { Answers result (type_at source.now at) }
     ensures within { IfOk result (λ r. r.1 ≤ length source.now) }
+    ensures onward { IfOk result (λ r. at ≤ r.1) }
 {
     if ends_at(source, at) {
         return Ok((FormatType::Display, at));
@@ -359,10 +374,12 @@ fn follows_argument(source: &str, at: usize) -> bool
     has(source, at, b'}') || has(source, at, b':')
 }
 
+#[tactic(auto, unfolding(crate::specs::Segments::argument_at))]
 fn argument_at(alloc: Global, source: &str, at: usize) -> Result<(Argument, usize), Error>
     requires { at ≤ length source.now }
     ensures value { Answers result (argument_at source.now at) }
     ensures within { IfOk result (λ r. r.1 < length source.now) }
+    ensures onward { IfOk result (λ r. at ≤ r.1) }
     ensures fits { IfOk result (λ r. ArgumentFits source.now r.0) }
 {
     if ends_at(source, at) {
@@ -385,11 +402,13 @@ fn argument_at(alloc: Global, source: &str, at: usize) -> Result<(Argument, usiz
     refuse(alloc, at, at + 1, "invalid placeholder argument")
 }
 
+#[tactic(auto, unfolding(crate::specs::Segments::options_at))]
 fn options_at(alloc: Global, source: &str, at: usize) -> Result<(FormatSpec, usize), Error>
     requires inside { at ≤ length source.now }
     requires boundary { IsCharBoundary source.now at }
     ensures value { Answers result (options_at source.now at) }
     ensures within { IfOk result (λ r. r.1 ≤ length source.now) }
+    ensures onward { IfOk result (λ r. at ≤ r.1) }
     ensures fits { IfOk result (λ r. SpecFits source.now r.0) }
 {
     let (fill, align, at) = fill_align_at(source, at);
@@ -412,10 +431,12 @@ fn options_at(alloc: Global, source: &str, at: usize) -> Result<(FormatSpec, usi
     Ok((spec, at))
 }
 
+#[tactic(auto, using(std::proofs::lemmas::Str::lead_after_ascii), unfolding(crate::specs::Segments::spec_at))]
 fn spec_at(alloc: Global, source: &str, at: usize) -> Result<(FormatSpec, usize), Error>
     requires { at ≤ length source.now }
     ensures value { Answers result (spec_at source.now at) }
     ensures within { IfOk result (λ r. r.1 ≤ length source.now) }
+    ensures onward { IfOk result (λ r. at ≤ r.1) }
     ensures fits { IfOk result (λ r. SpecFits source.now r.0) }
 {
     if has(source, at, b':') {
@@ -425,6 +446,7 @@ fn spec_at(alloc: Global, source: &str, at: usize) -> Result<(FormatSpec, usize)
     }
 }
 
+#[tactic(auto, unfolding(crate::specs::Segments::placeholder_at))]
 fn placeholder_at(alloc: Global, source: &str, at: usize) -> Result<(Segment, usize), Error>
     requires inside { at < length source.now }
     requires boundary { IsCharBoundary source.now at }
