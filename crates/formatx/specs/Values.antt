@@ -1,5 +1,5 @@
 -- What the carried values mean: their texts, and the shapes that say how a text is padded.
-use Rattle.std.specs.Prelude.{ℕ, ◌+◌, ◌^◌, Bool, true, false, ◌||◌, List, [], ◌∷◌, ◌++◌, codes, chars, encode_utf8, ◌==◌, nat_lt, flat_map, ℤ, pos, negsuc, suc, if◌then◌else◌}
+use Rattle.std.specs.Prelude.{◌≡◌, ℕ, ◌+◌, ◌^◌, Bool, true, false, ◌||◌, List, [], ◌∷◌, ◌++◌, codes, chars, encode_utf8, ◌==◌, nat_lt, flat_map, ℤ, pos, negsuc, suc, if◌then◌else◌}
 use Rattle.std.specs.Str.{byte}
 use Rattle.numerals.specs.Numeral.{numeral}
 use Rattle.formatx.specs.declared.value.Shape.{Shape}
@@ -60,3 +60,7 @@ str_meaning text = text_meaning (byte "\"") text
 
 abbrev pub char_meaning : ℕ → Meaning
 char_meaning c = text_meaning (byte "'") (encode_utf8 c)
+
+-- the new text begins with the old one
+abbrev pub Extends : List ℕ → List ℕ → Type 0
+Extends old new = (more : List ℕ) × (new ≡ old ++ more)

@@ -1,7 +1,7 @@
 -- Each turn reads one segment more.
-use Rattle.std.proofs.Common.{◌≡◌, ◌<◌, ◌≤◌, ◌∷◌, [], ◌++◌, length, subst, sym, arith}
+use Rattle.std.proofs.Common.{◌≡◌, ◌<◌, ◌≤◌, ◌∷◌, [], ◌++◌, length, arith, rules}
 use Rattle.std.proofs.lemmas.Bool.Decides.{nat_tests}
-use Rattle.formatx.proofs.ReadLemmas.{IsReadTo, read_nothing, read_segment, read_fault, read_all, tiled}
+use Rattle.formatx.proofs.ReadLemmas.{read_nothing, read_segment, read_fault, read_all, tiled}
 use Rattle.formatx.proofs.parser.parse.Goals as goal
 
 pub segments-init : goal.segments-init
@@ -20,8 +20,7 @@ pub returns-in_err-segment-clause-err : goal.returns-in_err-segment-clause-err
 returns-in_err-segment-clause-err c =
     let inside : c.segments.at < length c.args.source.now = omega arith in
     let told = read_fault c.args.source.now c.segments.at c.segments.segments.items _ c.segments.invariant inside c.in_err-segment.ensures.value in
-    let e = c.from_residual.ensures in
-    ?
+    search (rules, told)
 
 pub returns-clause-ok : goal.returns-clause-ok
 returns-clause-ok c =
