@@ -1,3 +1,5 @@
 pub mod Rows
 pub mod Runs
 pub mod ReadLemmas
+pub mod PrintLemmas
+pub mod CharLemmas

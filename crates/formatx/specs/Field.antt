@@ -2,6 +2,7 @@
 use Rattle.std.specs.Prelude.{ℕ, ◌+◌, ◌-◌, ◌/◌, Bool, true, false, cond, ◌||◌, List, [], ◌∷◌, ◌++◌, length, take, drop, slice_index, codes, chars, encode_utf8_all, replicate, ◌==◌, if◌then◌else◌, is_some, Option, Some, None, unwrap_or}
 use Rattle.std.specs.Str.{byte}
 use Rattle.formatx.specs.Values.{Meaning}
+use Rattle.formatx.specs.declared.format.Padding.{Padding}
 use Rattle.formatx.specs.declared.ast.FormatSpec.{FormatSpec}
 use Rattle.formatx.specs.declared.ast.Align.{Align}
 use Rattle.formatx.specs.declared.ast.Align.TheVariants.{Left, Center, Right}
@@ -44,13 +45,8 @@ body_of Raw sign precision text = record { sign = []; rest = text }
 abbrev pub gap_of : Option ℕ → Body → ℕ
 gap_of width body = unwrap_or width 0 - (length body.sign + length (chars body.rest))
 
--- how many fills stand on the left, zeros after the sign, and fills on the right
-pub record Padding : Type 0 where
-  pub left : ℕ
-  pub zeros : ℕ
-  pub right : ℕ
-
--- the fills by the alignment, Left where none is given; Center has the smaller half on the left
+-- a padding says how many fills stand on the left, how many zeros after the sign, and how many fills on the right.
+-- The fills go by the alignment, Left where none is given; Center has the smaller half on the left
 abbrev pub aligned : Option Align → ℕ → Padding
 aligned (Some Right) gap = record { left = gap; zeros = 0; right = 0 }
 aligned (Some Center) gap = record { left = gap / 2; zeros = 0; right = gap - gap / 2 }
@@ -84,16 +80,22 @@ abbrev pub padded : FormatSpec → Shape → Option ℕ → Body → List ℕ
 padded spec shape width body =
     laid_out (unwrap_or spec.fill (byte " ")) (padding_of spec shape (gap_of width body)) body
 
--- `{}` and `{:?}`: sign, precision and width by the shape
+-- the text and the shape of a value under a type; in hexadecimal the text is raw
+abbrev pub text_by : FormatType → Meaning → List ℕ
+text_by Debug m = m.debug Plain
+text_by DebugLowerHex m = m.debug LowerHex
+text_by DebugUpperHex m = m.debug UpperHex
+text_by _ m = m.display
+
+abbrev pub shape_by : FormatType → Meaning → Shape
+shape_by Debug m = m.debug_shape
+shape_by DebugLowerHex m = Raw
+shape_by DebugUpperHex m = Raw
+shape_by _ m = m.display_shape
+
+-- the text of a field: sign, precision and width by the shape
 abbrev pub shaped : FormatSpec → Shape → Option ℕ → Option ℕ → List ℕ → List ℕ
 shaped spec shape width precision text = padded spec shape width (body_of shape spec.sign precision text)
 
--- a value under a type that is carried: in hexadecimal the text stands as it is, and is padded under fill or alignment alone
 abbrev pub field_text : FormatSpec → Meaning → Option ℕ → Option ℕ → List ℕ
-field_text spec m width precision = field_by spec.format_type
-  where
-    field_by : FormatType → List ℕ
-    field_by Debug = shaped spec m.debug_shape width precision (m.debug Plain)
-    field_by DebugLowerHex = shaped spec Raw width precision (m.debug LowerHex)
-    field_by DebugUpperHex = shaped spec Raw width precision (m.debug UpperHex)
-    field_by _ = shaped spec m.display_shape width precision m.display
+field_text spec m width precision = shaped spec (shape_by spec.format_type m) width precision (text_by spec.format_type m)

@@ -1,8 +1,10 @@
 -- Templates and renderers as callers see them.
-use Rattle.std.specs.Prelude.{ℕ, List, [], ◌∷◌, ◌++◌, Bool, Result, Ok, Err}
+use Rattle.std.specs.Prelude.{◌≡◌, map, ℕ, List, [], ◌∷◌, ◌++◌, Bool, Result, Ok, Err}
 use Rattle.formatx.specs.Fault.{Fault}
 use Rattle.formatx.specs.Segments.{segments_of}
-use Rattle.formatx.specs.Text.{NamedPosition, covered}
+use Rattle.formatx.specs.Spans.{Fits}
+use Rattle.formatx.specs.Values.{Meaning}
+use Rattle.formatx.specs.Text.{NamedPosition, Scene, covered}
 use Rattle.formatx.specs.declared.ast.Argument.{Argument}
 use Rattle.formatx.specs.declared.ast.Argument.TheVariants.{Implicit, Positional, Named}
 use Rattle.formatx.specs.declared.ast.Segment.{Segment}
@@ -13,6 +15,15 @@ pub record Filling (V : Type 0) : Type 0 where
   pub source : List ℕ
   pub values : List V
   pub names : List NamedPosition
+
+-- what a renderer prints over, whose values mean what `meaning` says
+abbrev pub filled : {V : Type 0} → (V → Meaning) → Filling V → Bool → Scene
+filled meaning r strict = record { source = r.source; values = map meaning r.values; names = r.names; strict = strict }
+
+-- the segments were read from the source
+pub record IsParsed (source : List ℕ) (segments : List Segment) : Type 0 where
+  pub read : segments_of source ≡ Ok segments
+  pub fits : Fits source segments
 
 -- the name of an argument, if it has one
 abbrev pub argument_names : List ℕ → Argument → List (List ℕ)

@@ -1,11 +1,16 @@
 -- What a template prints over values: the text of each segment in order, up to the first fault.
-use Rattle.std.specs.Prelude.{ℕ, ◌+◌, Bool, true, false, List, [], ◌∷◌, ◌++◌, codes, decimal, slice_get, bytes_eq, encode_utf8, if◌then◌else◌, Option, Some, None, Result, Ok, Err, ok_or, option_and_then}
+use Rattle.std.specs.Prelude.{◌≡◌, ℕ, ◌+◌, Bool, true, false, List, [], ◌∷◌, ◌++◌, codes, map, string_bytes, slice_get, bytes_eq, encode_utf8, if◌then◌else◌, Option, Some, None, Result, Ok, Err, ok_or, option_and_then}
 use Rattle.std.specs.Str.{byte}
+use Rattle.numerals.specs.Numeral.{numeral}
 use Rattle.formatx.specs.Fault.{Fault, unreadable, missing, unsupported, ◌>>=◌, span, unreadable_at, quoting}
 use Rattle.formatx.specs.Words.{usize_of, text_between}
 use Rattle.formatx.specs.Segments.{segments_of}
 use Rattle.formatx.specs.Values.{Meaning}
 use Rattle.formatx.specs.Field.{field_text}
+use Rattle.formatx.specs.declared.value.Name.{Name}
+use Rattle.formatx.specs.declared.format.Input.{Input}
+use Rattle.formatx.specs.declared.error.Error.{Error}
+use Rattle.formatx.specs.declared.error.Error.TheVariants.{Parse, MissingArgument, UnsupportedTrait, NoMemory}
 use Rattle.formatx.specs.declared.ast.Span.{Span}
 use Rattle.formatx.specs.declared.ast.Argument.{Argument}
 use Rattle.formatx.specs.declared.ast.Argument.TheVariants.{Implicit, Positional, Named}
@@ -33,6 +38,18 @@ pub record Scene : Type 0 where
   pub names : List NamedPosition
   pub strict : Bool
 
+-- a name of the code as plain data
+abbrev pub named_position : Name → NamedPosition
+named_position n = record { name = string_bytes n.name; index = n.index }
+
+-- the scene of a call, whose values mean what `meaning` says
+abbrev pub scene_over : {V : Type 0} → (V → Meaning) → List ℕ → List V → List Name → Bool → Scene
+scene_over meaning source args named strict =
+    record { source = source; values = map meaning args; names = map named_position named; strict = strict }
+
+abbrev pub scene_of : {V : Type 0} → (V → Meaning) → Input V → Scene
+scene_of meaning input = scene_over meaning input.source.now input.args.now input.named.now input.strict
+
 -- the part of the source that a span covers
 abbrev pub covered : List ℕ → Span → List ℕ
 covered source s = text_between source s.start s.end
@@ -49,7 +66,7 @@ number_of words m = ok_or (usize_of m.display) (unreadable (span 0 0) (quoting w
 -- the value at a position, as a number
 abbrev pub count_at_position : Scene → ℕ → Result ℕ Fault
 count_at_position scene i =
-    ok_or (slice_get scene.values i) (unreadable (span 0 0) (codes "count argument index " ++ decimal i ++ codes " out of range"))
+    ok_or (slice_get scene.values i) (unreadable (span 0 0) (codes "count argument index " ++ numeral 10 false i ++ codes " out of range"))
     >>= number_of (codes "count argument ")
 
 -- the number that a count stands for
@@ -64,13 +81,17 @@ abbrev pub width_of : Scene → Option Count → Result (Option ℕ) Fault
 width_of scene None = Ok None
 width_of scene (Some c) = count_of scene c >>= λ n. Ok (Some n)
 
+-- the precision that the next implicit position holds
+abbrev pub star_precision : Scene → ℕ → Result ℕ Fault
+star_precision scene next =
+    ok_or (slice_get scene.values next) (unreadable (span 0 0) (codes "not enough arguments for `.*` precision"))
+    >>= number_of (codes "`.*` precision argument ")
+
 -- a precision: `.*` takes the next implicit position
 abbrev pub precision_of : Scene → ℕ → Option Precision → Result (Option ℕ) Fault
 precision_of scene next None = Ok None
 precision_of scene next (Some (Counted c)) = width_of scene (Some c)
-precision_of scene next (Some Star) =
-    ok_or (slice_get scene.values next) (unreadable (span 0 0) (codes "not enough arguments for `.*` precision"))
-    >>= λ m. number_of (codes "`.*` precision argument ") m >>= λ n. Ok (Some n)
+precision_of scene next (Some Star) = star_precision scene next >>= λ n. Ok (Some n)
 
 -- the position that an argument stands for
 abbrev pub position_at : Scene → ℕ → Argument → Option ℕ
@@ -84,8 +105,8 @@ value_at scene next argument = option_and_then (λ i. slice_get scene.values i) 
 
 -- how a missing argument is named: by its position in decimal, or by its name
 abbrev pub argument_name : List ℕ → ℕ → Argument → List ℕ
-argument_name source next Implicit = decimal next
-argument_name source next (Positional i) = decimal i
+argument_name source next Implicit = numeral 10 false next
+argument_name source next (Positional i) = numeral 10 false i
 argument_name source next (Named s) = covered source s
 
 -- only `{}`, `{:?}`, `{:x?}` and `{:X?}` are carried
@@ -154,12 +175,12 @@ rendered scene next [] = record { text = []; fault = None }
 rendered scene next (s ∷ ss) = continued (segment_text scene next s) (rendered scene (next + segment_takes s) ss)
 
 -- the whole text, or the first fault
+abbrev pub text_unless : List ℕ → Option Fault → Result (List ℕ) Fault
+text_unless text None = Ok text
+text_unless text (Some fault) = Err fault
+
 abbrev pub whole : Outcome → Result (List ℕ) Fault
-whole o = by_fault o.fault
-  where
-    by_fault : Option Fault → Result (List ℕ) Fault
-    by_fault None = Ok o.text
-    by_fault (Some fault) = Err fault
+whole o = text_unless o.text o.fault
 
 -- the text of a source over a list of values, or the first fault
 abbrev pub formatted : Scene → Result (List ℕ) Fault
@@ -168,3 +189,14 @@ formatted scene = segments_of scene.source >>= λ segments. whole (rendered scen
 -- the same by position, strict, and without names
 abbrev pub formatted_by_position : List ℕ → List Meaning → Result (List ℕ) Fault
 formatted_by_position source values = formatted (record { source = source; values = values; names = []; strict = true })
+
+-- what an output holds after a refusal: the text before the fault, or where there was no memory a front of the text
+abbrev pub Holds : Error → List ℕ → List ℕ → List ℕ → Type 0
+Holds NoMemory old new text = (front : List ℕ) × (back : List ℕ) × (new ≡ old ++ front) × (text ≡ front ++ back)
+Holds (Parse s message) old new text = new ≡ old ++ text
+Holds (MissingArgument name s) old new text = new ≡ old ++ text
+Holds (UnsupportedTrait t s) old new text = new ≡ old ++ text
+
+-- a text was appended, which is what the definition gives
+abbrev pub Appends : Result (List ℕ) Fault → List ℕ → List ℕ → Type 0
+Appends r old new = (text : List ℕ) × (r ≡ Ok text) × (new ≡ old ++ text)

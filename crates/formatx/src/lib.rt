@@ -3,7 +3,10 @@
 
 mod ast;
 mod error;
+mod format;
 mod parser;
+mod renderer;
+mod template;
 mod value;
 
 pub use ast::{
@@ -11,5 +14,11 @@ pub use ast::{
     Precision, Segment, Sign, Span,
 };
 pub use error::Error;
+pub use format::render;
 pub use parser::parse;
+pub use renderer::Renderer;
+pub use template::Template;
 pub use value::{DebugStyle, FormatValue, Name, Shape};
+
+#[cfg(test)]
+mod tests;

@@ -1,5 +1,5 @@
 // The values that a template prints: two texts and two shapes.
-ghost use Rattle.std.specs.Prelude.{◌≡◌, ◌++◌, ◌<◌, ℤ, pos, IfErr, OnErr, OnOk, length, string_bytes, string_len, take, codes, chars, IsUtf8, ◌∷◌, [], List, ℕ};
+ghost use Rattle.std.specs.Prelude.{false, ◌≡◌, ◌++◌, ◌<◌, ℤ, pos, IfErr, OnErr, OnOk, length, string_bytes, string_len, take, codes, chars, IsUtf8, ◌∷◌, [], List, ℕ};
 ghost use Rattle.formatx.specs.Values.{decimal_of, escaped, integer_debug, quoted, Extends};
 ghost use Rattle.numerals.specs.Numeral.{numeral};
 
@@ -85,11 +85,13 @@ fn push_signed(n: i128, out: &mut String) -> Result<(), Error>
     }
     let len = out.len();
     out.push('-')?;
-    if push_unsigned(n.unsigned_abs(), out).is_err() {
-        take_back(out, len);
-        return Err(Error::NoMemory);
+    match push_unsigned(n.unsigned_abs(), out) {
+        Ok(()) => Ok(()),
+        Err(error) => {
+            take_back(out, len);
+            Err(error)
+        }
     }
-    Ok(())
 }
 
 // Appends the debug text of a number that isn't signed.
@@ -185,11 +187,13 @@ fn push_quoted(text: &str, quote: char, out: &mut String) -> Result<(), Error>
     ensures memory { IfErr result (λ e. e ≡ Error.NoMemory) }
 {
     let len = out.len();
-    if push_characters(text, quote, out).is_err() {
-        take_back(out, len);
-        return Err(Error::NoMemory);
+    match push_characters(text, quote, out) {
+        Ok(()) => Ok(()),
+        Err(error) => {
+            take_back(out, len);
+            Err(error)
+        }
     }
-    Ok(())
 }
 
 impl FormatValue for u8 {
@@ -331,8 +335,7 @@ impl FormatValue for usize {
 }
 
 impl FormatValue for i8 {
-    ghost use Rattle.std.specs.Prelude.{w8};
-    ghost use Rattle.std.specs.Int.{cast_unsigned};
+    ghost use Rattle.std.specs.Int.{cast_unsigned, w8};
     ghost use Rattle.formatx.specs.Values.{integer_meaning};
 
     ghost meaning = { λ n. integer_meaning n (cast_unsigned w8 n) };
@@ -355,8 +358,7 @@ impl FormatValue for i8 {
 }
 
 impl FormatValue for i16 {
-    ghost use Rattle.std.specs.Prelude.{w16};
-    ghost use Rattle.std.specs.Int.{cast_unsigned};
+    ghost use Rattle.std.specs.Int.{cast_unsigned, w16};
     ghost use Rattle.formatx.specs.Values.{integer_meaning};
 
     ghost meaning = { λ n. integer_meaning n (cast_unsigned w16 n) };
@@ -379,8 +381,7 @@ impl FormatValue for i16 {
 }
 
 impl FormatValue for i32 {
-    ghost use Rattle.std.specs.Prelude.{w32};
-    ghost use Rattle.std.specs.Int.{cast_unsigned};
+    ghost use Rattle.std.specs.Int.{cast_unsigned, w32};
     ghost use Rattle.formatx.specs.Values.{integer_meaning};
 
     ghost meaning = { λ n. integer_meaning n (cast_unsigned w32 n) };
@@ -403,8 +404,7 @@ impl FormatValue for i32 {
 }
 
 impl FormatValue for i64 {
-    ghost use Rattle.std.specs.Prelude.{w64};
-    ghost use Rattle.std.specs.Int.{cast_unsigned};
+    ghost use Rattle.std.specs.Int.{cast_unsigned, w64};
     ghost use Rattle.formatx.specs.Values.{integer_meaning};
 
     ghost meaning = { λ n. integer_meaning n (cast_unsigned w64 n) };
@@ -427,8 +427,7 @@ impl FormatValue for i64 {
 }
 
 impl FormatValue for i128 {
-    ghost use Rattle.std.specs.Prelude.{w128};
-    ghost use Rattle.std.specs.Int.{cast_unsigned};
+    ghost use Rattle.std.specs.Int.{cast_unsigned, w128};
     ghost use Rattle.formatx.specs.Values.{integer_meaning};
 
     ghost meaning = { λ n. integer_meaning n (cast_unsigned w128 n) };
@@ -451,8 +450,7 @@ impl FormatValue for i128 {
 }
 
 impl FormatValue for isize {
-    ghost use Rattle.std.specs.Prelude.{w64};
-    ghost use Rattle.std.specs.Int.{cast_unsigned};
+    ghost use Rattle.std.specs.Int.{cast_unsigned, w64};
     ghost use Rattle.formatx.specs.Values.{integer_meaning};
 
     ghost meaning = { λ n. integer_meaning n (cast_unsigned w64 n) };
