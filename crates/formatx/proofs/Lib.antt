@@ -3,3 +3,5 @@ pub mod Runs
 pub mod ReadLemmas
 pub mod PrintLemmas
 pub mod CharLemmas
+pub mod LawLemmas
+pub mod WidthLemmas

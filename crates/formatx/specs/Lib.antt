@@ -7,3 +7,4 @@ pub mod Values
 pub mod Field
 pub mod Text
 pub mod Templates
+pub mod Laws

@@ -13,7 +13,7 @@ use crate::ast::{
     Precision, Segment, Sign, Span,
 };
 use crate::error::Error;
-use crate::parser::{quote, usize_of};
+use crate::parser::{has, quote, usize_of};
 use crate::value::{DebugStyle, FormatValue, Name, Shape};
 use numerals::{Radix, push_digits};
 use std::alloc::Global;
@@ -221,11 +221,12 @@ fn sign_text(sign: Option<Sign>) -> &'static str
     }
 }
 
+#[tactic(auto, using(std::proofs::lemmas::Str::lead_after_ascii))]
 fn number_body(sign: Option<Sign>, text: &str) -> Body<'_>
     ensures sign { result.sign.now ≡ (number_body sign text.now).sign }
     ensures rest { result.rest.now ≡ (number_body sign text.now).rest }
 {
-    if text.as_bytes().first() == Some(&b'-') {
+    if has(text, 0, b'-') {
         Body {
             sign: &text[..1],
             rest: &text[1..],
@@ -245,9 +246,9 @@ fn front(text: &str, count: usize) -> &str
     let mut rest = text.chars();
     'characters: for i in 0..count {
         let _ = i;
-        if rest.next().is_none() {
+        let Some(_character) = rest.next() else {
             return text;
-        }
+        };
     }
     &text[..text.len() - rest.as_str().len()]
 }

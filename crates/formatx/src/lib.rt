@@ -4,6 +4,7 @@
 mod ast;
 mod error;
 mod format;
+mod laws;
 mod parser;
 mod renderer;
 mod template;
@@ -15,6 +16,7 @@ pub use ast::{
 };
 pub use error::Error;
 pub use format::render;
+pub use laws::{fields_are_wide, finishes_agree};
 pub use parser::parse;
 pub use renderer::Renderer;
 pub use template::Template;

@@ -25,7 +25,8 @@ fn byte_at(source: &str, at: usize) -> u8
     }
 }
 
-fn has(source: &str, at: usize, byte: u8) -> bool
+/// Whether this byte, which isn't 0, stands at a place.
+pub(crate) fn has(source: &str, at: usize, byte: u8) -> bool
     requires { 0 < byte }
     ensures value { result ≡ has source.now at byte }
     ensures inside { IsTrue result → at < length source.now }

@@ -62,7 +62,9 @@ impl<'a, V: FormatValue> Renderer<'a, V> {
         let index = self.values.len();
         let name = String::from_str(self.alloc, name)?;
         self.names.reserve(1)?;
-        self.add(value)?;
+        if self.values.push(value).is_err() {
+            return Err(Error::NoMemory);
+        }
         self.names.push(Name { name, index }).unwrap();
         Ok(())
     }

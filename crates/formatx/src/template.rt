@@ -2,8 +2,8 @@
 ghost use Rattle.std.specs.Prelude.{◌≡◌, ◌∷◌, ◌↔◌, [], Contains, IfErr, IfOk, IsOk, IsTrue, MatchOption, OnOk, Ok, map, string_bytes};
 ghost use Rattle.formatx.specs.Fault.{Tells};
 ghost use Rattle.formatx.specs.Segments.{segments_of};
-ghost use Rattle.formatx.specs.Spans.{SegmentFits};
-ghost use Rattle.formatx.specs.Templates.{names_of, segment_names};
+ghost use Rattle.formatx.specs.Spans.{Fits, SegmentFits};
+ghost use Rattle.formatx.specs.Templates.{names_in, names_of, segment_names};
 ghost use Rattle.formatx.specs.Text.{formatted, scene_over};
 
 use crate::ast::{Argument, FormatString, Segment};
@@ -67,6 +67,38 @@ fn segment_name<'a>(source: &'a str, segment: &Segment) -> Option<&'a str>
     }
 }
 
+// Whether one of the segments has this name.
+fn has_name(source: &str, segments: &[Segment], name: &str) -> bool
+    requires { Fits source.now segments.now }
+    ensures { IsTrue result ↔ Contains (names_in source.now segments.now) name.now }
+{
+    'segments: for segment in segments {
+        if let Some(found) = segment_name(source, segment) {
+            if found == name {
+                return true;
+            }
+        }
+    }
+    false
+}
+
+// The names of the segments in order.
+fn collect_names<'a>(alloc: Global, source: &'a str, segments: &[Segment]) -> Result<Vec<&'a str>, Error>
+    requires { Fits source.now segments.now }
+    ensures ok { IfOk result (λ names. map (λ s. s.now) names.items ≡ names_in source.now segments.now) }
+    ensures memory { IfErr result (λ e. e ≡ Error.NoMemory) }
+{
+    let mut names = Vec::new(alloc);
+    'segments: for segment in segments {
+        if let Some(name) = segment_name(source, segment) {
+            if names.push(name).is_err() {
+                return Err(Error::NoMemory);
+            }
+        }
+    }
+    Ok(names)
+}
+
 impl Template {
     /// Reads a template, and keeps a copy of its source.
     pub fn new(alloc: Global, source: &str) -> Result<Template, Error>
@@ -92,13 +124,7 @@ impl Template {
     pub fn contains(&self, name: &str) -> bool
         ensures { IsTrue result ↔ Contains (names_of self.now) name.now }
     {
-        let source = self.source.as_str();
-        'segments: for segment in &self.parsed.segments {
-            if segment_name(source, segment) == Some(name) {
-                return true;
-            }
-        }
-        false
+        has_name(self.source.as_str(), self.parsed.segments.as_slice(), name)
     }
 
     /// The names of the placeholders' arguments in order, repeats kept, as slices of the source.
@@ -106,16 +132,7 @@ impl Template {
         ensures ok { IfOk result (λ names. map (λ s. s.now) names.items ≡ names_of self.now) }
         ensures memory { IfErr result (λ e. e ≡ Error.NoMemory) }
     {
-        let source = self.source.as_str();
-        let mut names = Vec::new(alloc);
-        'segments: for segment in &self.parsed.segments {
-            if let Some(name) = segment_name(source, segment) {
-                if names.push(name).is_err() {
-                    return Err(Error::NoMemory);
-                }
-            }
-        }
-        Ok(names)
+        collect_names(alloc, self.source.as_str(), self.parsed.segments.as_slice())
     }
 
     /// The source, unchanged.
