@@ -11,9 +11,9 @@ use Rattle.formatx.specs.Field.{copies}
 pub copies-more : (n c : ℕ) → copies (n + 1) c ≡ copies n c ++ encode_utf8 c
 copies-more n c = rw add-one (by_count n)
   where
-  by_count : (n : ℕ) → copies (suc n) c ≡ copies n c ++ encode_utf8 c
-  by_count zero = append-nil (encode_utf8 c)
-  by_count (suc n) = ap (λ (xs : List ℕ). encode_utf8 c ++ xs) (by_count n) ∙ sym (append_assoc (encode_utf8 c) (copies n c) (encode_utf8 c))
+    by_count : (n : ℕ) → copies (suc n) c ≡ copies n c ++ encode_utf8 c
+    by_count zero = append-nil (encode_utf8 c)
+    by_count (suc n) = ap (λ (xs : List ℕ). encode_utf8 c ++ xs) (by_count n) ∙ sym (append_assoc (encode_utf8 c) (copies n c) (encode_utf8 c))
 
 -- the front and the rest of a list, one element further
 front_step : (cs : List ℕ) (k c : ℕ) (t : List ℕ) → drop k cs ≡ c ∷ t → (take (suc k) cs ≡ take k cs ++ c ∷ []) × (drop (suc k) cs ≡ t)

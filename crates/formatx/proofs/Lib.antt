@@ -5,3 +5,4 @@ pub mod PrintLemmas
 pub mod CharLemmas
 pub mod LawLemmas
 pub mod WidthLemmas
+pub mod TemplateLemmas

@@ -1,5 +1,6 @@
 -- Printing a template segment by segment.
-use Rattle.std.proofs.Common.{◌≡◌, ℕ, ◌+◌, ◌<◌, ◌≤◌, List, [], ◌∷◌, ◌++◌, length, drop, get_or, Option, Some, None, Result, Ok, Err, refl, arith, ap, ◌∙◌, sym, subst, append_assoc}
+use Rattle.std.proofs.Common.{◌≡◌, ℕ, suc, ◌+◌, ◌<◌, ◌≤◌, List, [], ◌∷◌, ◌++◌, length, drop, get_or, Option, Some, None, Result, Ok, Err, refl, arith, ap, ◌∙◌, sym, subst, append_assoc}
+use Rattle.std.proofs.Math.Seq.{drop-cons}
 use Rattle.std.proofs.lemmas.List.{append-nil}
 use Rattle.formatx.specs.Fault.{Fault, Tells}
 use Rattle.formatx.specs.Text.{Scene, Outcome, Appends, Holds, continued, rendered, segment_takes, segment_text, whole}
@@ -58,3 +59,8 @@ print_all old now all scene next h =
     let ended : all.fault ≡ None = h.fault in
     let short : all.text ≡ h.done = h.text ∙ append-nil h.done in
     (all.text, rw ended refl, h.now_is ∙ ap (λ (xs : List ℕ). old ++ xs) (sym short))
+
+-- the same of the segment at a place of the list
+pub print_fault_at : (old now : List ℕ) (all : Outcome) (scene : Scene) (next : ℕ) (ss : List Segment) (i : ℕ) (d : Segment) (e : Error) → IsPrinted old now all (rendered scene next (drop i ss)) → i < length ss → Tells e (segment_text scene next (get_or ss i d)) → Tells e (whole all) × Holds e old now all.text
+print_fault_at old now all scene next ss i d e h inside told =
+    print_fault old now all scene next (get_or ss i d) (drop (suc i) ss) e (subst (λ (xs : List Segment). IsPrinted old now all (rendered scene next xs)) (drop-cons ss i d inside) h) told

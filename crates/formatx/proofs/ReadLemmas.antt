@@ -75,33 +75,34 @@ segments_from-end (suc room) source i h =
 pub read_segment : (source : List ℕ) (i j : ℕ) (s : Segment) (front : List Segment) → IsReadTo source i front → i < length source → segment_at source i ≡ Ok (s, j) → IsPlaced source i j s → IsReadTo source j (front ++ s ∷ [])
 read_segment source i j s front h inside e placed = by_room h.room h.enough h.read
   where
-  by_room : (room : ℕ) → length source ≤ room + i → segments_of source ≡ after front (segments_from room source i) → IsReadTo source j (front ++ s ∷ [])
-  by_room zero enough read = absurd (omega arith)
-  by_room (suc room) enough read = record {
-    inside = placed.to.0;
-    boundary = placed.to;
-    fits = All-push (SegmentFits source) front s h.fits placed.fits;
-    tiles = Tiles-push front 0 i j s h.tiles placed.at;
-    room = room;
-    enough = omega (arith, placed.grows);
-    read = read ∙ ap (after front) (segments_from-read room source i j s inside e) ∙ after-push front s (segments_from room source j);
-  }
+    by_room : (room : ℕ) → length source ≤ room + i → segments_of source ≡ after front (segments_from room source i) → IsReadTo source j (front ++ s ∷ [])
+    by_room zero enough read = absurd (omega arith)
+    by_room (suc room) enough read = record {
+      inside = placed.to.0;
+      boundary = placed.to;
+      fits = All-push (SegmentFits source) front s h.fits placed.fits;
+      tiles = Tiles-push front 0 i j s h.tiles placed.at;
+      room = room;
+      enough = omega (arith, placed.grows);
+      read = read ∙ ap (after front) (segments_from-read room source i j s inside e) ∙ after-push front s (segments_from room source j);
+    }
 
 -- the first fault of the rest is that of the whole
 pub read_fault : (source : List ℕ) (i : ℕ) (front : List Segment) (e : Error) → IsReadTo source i front → i < length source → Tells e (segment_at source i) → Tells e (segments_of source)
 read_fault source i front e h inside told = by_error e told
   where
-  whole : (fault : Fault) → segment_at source i ≡ Err fault → segments_of source ≡ Err fault
-  whole fault w = by_room h.room h.enough h.read
-    where
-    by_room : (room : ℕ) → length source ≤ room + i → segments_of source ≡ after front (segments_from room source i) → segments_of source ≡ Err fault
-    by_room zero enough read = absurd (omega arith)
-    by_room (suc room) enough read = read ∙ ap (after front) (segments_from-fault room source i fault inside w)
-  by_error : (e : Error) → Tells e (segment_at source i) → Tells e (segments_of source)
-  by_error (Parse s message) told = whole _ told
-  by_error (MissingArgument name s) told = whole _ told
-  by_error (UnsupportedTrait t s) told = whole _ told
-  by_error NoMemory told = tt
+    whole : (fault : Fault) → segment_at source i ≡ Err fault → segments_of source ≡ Err fault
+    whole fault w = by_room h.room h.enough h.read
+      where
+        by_room : (room : ℕ) → length source ≤ room + i → segments_of source ≡ after front (segments_from room source i) → segments_of source ≡ Err fault
+        by_room zero enough read = absurd (omega arith)
+        by_room (suc room) enough read = read ∙ ap (after front) (segments_from-fault room source i fault inside w)
+
+    by_error : (e : Error) → Tells e (segment_at source i) → Tells e (segments_of source)
+    by_error (Parse s message) told = whole _ told
+    by_error (MissingArgument name s) told = whole _ told
+    by_error (UnsupportedTrait t s) told = whole _ told
+    by_error NoMemory told = tt
 
 -- the whole source is read
 pub read_all : (source : List ℕ) (i : ℕ) (front : List Segment) → IsReadTo source i front → length source ≤ i → segments_of source ≡ Ok front

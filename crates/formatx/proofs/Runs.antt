@@ -28,14 +28,14 @@ run_from_position p xs r e =
 pub run_boundary : (p : ℕ → Bool) (bs : List ℕ) (i : ℕ) → ((x : ℕ) → p x ≡ true → x < 128) → IsUtf8 bs → i ≤ length bs → IsCharBoundary bs i → IsCharBoundary bs (i + prefix_len p (drop i bs))
 run_boundary p bs i ascii utf8 inside start = by_len (prefix_len p (drop i bs)) refl
   where
-  by_len : (n : ℕ) → prefix_len p (drop i bs) ≡ n → IsCharBoundary bs (i + n)
-  by_len zero e = rw add-zero start
-  by_len (suc n) e =
-      let most = prefix_len-le-length p (drop i bs) in
-      let passes = prefix_len_passes p (drop i bs) n 0 (omega arith) in
-      let there : get_or bs (i + n) 0 < 128 = rw get_or-drop at (ascii _ passes) in
-      let long = length-drop i bs in
-      rw add-suc (rw (sym (add-one (i + n))) (IsCharBoundary-after_ascii bs (i + n) utf8 (omega arith) there))
+    by_len : (n : ℕ) → prefix_len p (drop i bs) ≡ n → IsCharBoundary bs (i + n)
+    by_len zero e = rw add-zero start
+    by_len (suc n) e =
+        let most = prefix_len-le-length p (drop i bs) in
+        let passes = prefix_len_passes p (drop i bs) n 0 (omega arith) in
+        let there : get_or bs (i + n) 0 < 128 = rw get_or-drop at (ascii _ passes) in
+        let long = length-drop i bs in
+        rw add-suc (rw (sym (add-one (i + n))) (IsCharBoundary-after_ascii bs (i + n) utf8 (omega arith) there))
 
 -- the tests of a text of digits
 all_digits-true : (ds : List ℕ) → AllDigits 10 ds → all_digits ds ≡ true

@@ -37,7 +37,7 @@ by_shape-Fills Raw zero_pad gap h = absurd (h refl)
 padding-Fills : (spec : FormatSpec) (shape : Shape) (gap : ℕ) → ¬ (shape ≡ Raw) → Fills (padding_of spec shape gap) gap
 padding-Fills spec shape gap h =
     elim (is_aligned spec) as (λ b. Fills (cond b (aligned spec.align gap) (by_shape shape spec.zero_pad gap)) gap)
-        [ true ↦ aligned-Fills spec.align gap | false ↦ by_shape-Fills shape spec.zero_pad gap h ]
+    [ true ↦ aligned-Fills spec.align gap | false ↦ by_shape-Fills shape spec.zero_pad gap h ]
 
 -- copies of a character are as many characters
 scalars-replicate : (n c : ℕ) → IsScalar c → all_scalars (replicate n c) ≡ true
@@ -103,15 +103,15 @@ number-IsText : (sign : Option Sign) (text : List ℕ) → IsUtf8 text → IsTex
 number-IsText sign [] h = signs-IsText sign [] h
 number-IsText sign (c ∷ cs) h = by_test (eqb c 45) refl
   where
-  by_test : (b : Bool) → eqb c 45 ≡ b → IsText (number_body sign (c ∷ cs))
-  by_test true e =
-      let minus : c ≡ 45 = grind (arith, nat_tests) in
-      let ascii : get_or (c ∷ cs) 0 0 < 128 = omega (arith, minus) in
-      let inside : 0 < length (c ∷ cs) = omega arith in
-      let rest : IsUtf8 (drop 1 (c ∷ cs)) = IsUtf8-drop (c ∷ cs) 1 h (IsCharBoundary-after_ascii (c ∷ cs) 0 h inside ascii) in
-      let there : IsText (record { sign = c ∷ []; rest = drop 1 (c ∷ cs) }) = rw minus (minus-IsText (drop 1 (c ∷ cs)) rest) in
-      rw e there
-  by_test false e = rw e (signs-IsText sign (c ∷ cs) h)
+    by_test : (b : Bool) → eqb c 45 ≡ b → IsText (number_body sign (c ∷ cs))
+    by_test true e =
+        let minus : c ≡ 45 = grind (arith, nat_tests) in
+        let ascii : get_or (c ∷ cs) 0 0 < 128 = omega (arith, minus) in
+        let inside : 0 < length (c ∷ cs) = omega arith in
+        let rest : IsUtf8 (drop 1 (c ∷ cs)) = IsUtf8-drop (c ∷ cs) 1 h (IsCharBoundary-after_ascii (c ∷ cs) 0 h inside ascii) in
+        let there : IsText (record { sign = c ∷ []; rest = drop 1 (c ∷ cs) }) = rw minus (minus-IsText (drop 1 (c ∷ cs)) rest) in
+        rw e there
+    by_test false e = rw e (signs-IsText sign (c ∷ cs) h)
 
 body-IsText : (shape : Shape) (sign : Option Sign) (precision : Option ℕ) (text : List ℕ) → IsUtf8 text → IsText (body_of shape sign precision text)
 body-IsText Integer sign precision text h = number-IsText sign text h

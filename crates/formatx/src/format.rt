@@ -98,13 +98,19 @@ fn covered<'a>(source: &'a str, span: &Span) -> &'a str
     &source[span.start..span.end]
 }
 
-fn count_of<V: FormatValue>(alloc: Global, input: &Input<'_, V>, count: &Count) -> Result<usize, Error>
+fn count_of<V: FormatValue>(
+    alloc: Global,
+    input: &Input<'_, V>,
+    count: &Count,
+) -> Result<usize, Error>
     requires { CountFits input.now.source.now count.now }
     ensures { Answers result (count_of (scene_of V.meaning input.now) count.now) }
 {
     match count {
         Count::Literal(number) => Ok(*number),
-        Count::Param(CountParam::Positional(position)) => count_at_position(alloc, input, *position),
+        Count::Param(CountParam::Positional(position)) => count_at_position(
+            alloc, input, *position,
+        ),
         Count::Param(CountParam::Named(span)) => {
             let name = covered(input.source, span);
             match position_of(name, input.named) {
@@ -136,7 +142,11 @@ fn width_of<V: FormatValue>(
 }
 
 // The precision that the next implicit position holds.
-fn star_precision<V: FormatValue>(alloc: Global, input: &Input<'_, V>, next: usize) -> Result<usize, Error>
+fn star_precision<V: FormatValue>(
+    alloc: Global,
+    input: &Input<'_, V>,
+    next: usize,
+) -> Result<usize, Error>
     ensures { Answers result (star_precision (scene_of V.meaning input.now) next) }
 {
     match input.args.get(next) {
@@ -168,7 +178,11 @@ fn precision_of<V: FormatValue>(
 }
 
 // The position that an argument stands for.
-fn position_at<V: FormatValue>(input: &Input<'_, V>, next: usize, argument: &Argument) -> Option<usize>
+fn position_at<V: FormatValue>(
+    input: &Input<'_, V>,
+    next: usize,
+    argument: &Argument,
+) -> Option<usize>
     requires { ArgumentFits input.now.source.now argument.now }
     ensures { result ≡ position_at (scene_of V.meaning input.now) next argument.now }
 {
@@ -179,8 +193,28 @@ fn position_at<V: FormatValue>(input: &Input<'_, V>, next: usize, argument: &Arg
     }
 }
 
+// The argument's value, if it is there.
+fn value_at<'a, V: FormatValue>(
+    input: &Input<'a, V>,
+    next: usize,
+    argument: &Argument,
+) -> Option<&'a V>
+    requires { ArgumentFits input.now.source.now argument.now }
+    ensures { option_map V.meaning (option_copied result) ≡ value_at (scene_of V.meaning input.now) next argument.now }
+{
+    match position_at(input, next, argument) {
+        Some(position) => input.args.get(position),
+        None => None,
+    }
+}
+
 // How a missing argument is named.
-fn argument_name(alloc: Global, source: &str, next: usize, argument: &Argument) -> Result<String, Error>
+fn argument_name(
+    alloc: Global,
+    source: &str,
+    next: usize,
+    argument: &Argument,
+) -> Result<String, Error>
     requires { ArgumentFits source.now argument.now }
     ensures ok { IfOk result (λ name. string_bytes name ≡ argument_name source.now next argument.now) }
     ensures memory { IfErr result (λ e. e ≡ Error.NoMemory) }
@@ -221,7 +255,6 @@ fn sign_text(sign: Option<Sign>) -> &'static str
     }
 }
 
-#[tactic(auto, using(std::proofs::lemmas::Str::lead_after_ascii))]
 fn number_body(sign: Option<Sign>, text: &str) -> Body<'_>
     ensures sign { result.sign.now ≡ (number_body sign text.now).sign }
     ensures rest { result.rest.now ≡ (number_body sign text.now).rest }
@@ -262,7 +295,12 @@ fn cut(precision: Option<usize>, text: &str) -> &str
     }
 }
 
-fn body_of<'a>(shape: &Shape, sign: Option<Sign>, precision: Option<usize>, text: &'a str) -> Body<'a>
+fn body_of<'a>(
+    shape: &Shape,
+    sign: Option<Sign>,
+    precision: Option<usize>,
+    text: &'a str,
+) -> Body<'a>
     ensures sign { result.sign.now ≡ (body_of shape.now sign precision text.now).sign }
     ensures rest { result.rest.now ≡ (body_of shape.now sign precision text.now).rest }
 {
@@ -402,7 +440,12 @@ fn laid_out_len(fill: char, padding: Padding, body: &Body<'_>) -> Option<usize>
 }
 
 // Appends a body with its padding. The room is taken first, so nothing is written without memory.
-fn push_laid_out(output: &mut String, fill: char, padding: Padding, body: &Body<'_>) -> Result<(), Error>
+fn push_laid_out(
+    output: &mut String,
+    fill: char,
+    padding: Padding,
+    body: &Body<'_>,
+) -> Result<(), Error>
     ensures ok { OnOk result (string_bytes output.new ≡ string_bytes output.old ++ laid_out fill padding (record { sign = body.now.sign.now; rest = body.now.rest.now })) }
     ensures err { OnErr result (string_bytes output.new ≡ string_bytes output.old) }
     ensures memory { IfErr result (λ e. e ≡ Error.NoMemory) }
@@ -439,7 +482,11 @@ fn push_shaped(
 }
 
 // Appends the text of a value under a type, and answers its shape.
-fn push_text<V: FormatValue>(out: &mut String, value: &V, format_type: FormatType) -> Result<Shape, Error>
+fn push_text<V: FormatValue>(
+    out: &mut String,
+    value: &V,
+    format_type: FormatType,
+) -> Result<Shape, Error>
     ensures ok { OnOk result (string_bytes out.new ≡ string_bytes out.old ++ text_by format_type (V.meaning value.now)) }
     ensures shape { IfOk result (λ shape. shape ≡ shape_by format_type (V.meaning value.now)) }
     ensures memory { IfErr result (λ e. e ≡ Error.NoMemory) }
@@ -572,8 +619,7 @@ fn push_placeholder<V: FormatValue>(
 {
     let precision = precision_of(alloc, input, next, &placeholder.spec.precision)?;
     let own = next + precision_takes(&placeholder.spec.precision);
-    let value = position_at(input, own, &placeholder.argument).and_then(|position| input.args.get(position));
-    match value {
+    match value_at(input, own, &placeholder.argument) {
         Some(value) => push_present(alloc, output, scratch, input, placeholder, precision, value),
         None => refuse_missing(alloc, input, own, placeholder),
     }

@@ -49,7 +49,10 @@ fn digits_end(source: &str, at: usize) -> usize
     ensures boundary { IsCharBoundary source.now at → IsCharBoundary source.now result }
 {
     let rest = &source.as_bytes()[at..];
-    at + rest.iter().position(|byte| !byte.is_ascii_digit()).unwrap_or(rest.len())
+    at + rest
+        .iter()
+        .position(|byte| !byte.is_ascii_digit())
+        .unwrap_or(rest.len())
 }
 
 fn is_word(byte: u8) -> bool
@@ -72,7 +75,10 @@ fn word_end(source: &str, at: usize) -> usize
     ensures onward { at ≤ result }
 {
     let rest = &source.as_bytes()[at..];
-    at + rest.iter().position(|byte| !is_word(*byte)).unwrap_or(rest.len())
+    at + rest
+        .iter()
+        .position(|byte| !is_word(*byte))
+        .unwrap_or(rest.len())
 }
 
 fn is_plain(byte: u8) -> bool
@@ -89,7 +95,10 @@ fn plain_end(source: &str, at: usize) -> usize
     ensures grows { at < length source.now → IsTrue (is_plain (slice_index source.now at)) → at < result }
 {
     let rest = &source.as_bytes()[at..];
-    at + rest.iter().position(|byte| !is_plain(*byte)).unwrap_or(rest.len())
+    at + rest
+        .iter()
+        .position(|byte| !is_plain(*byte))
+        .unwrap_or(rest.len())
 }
 
 fn is_type_start(byte: u8) -> bool
@@ -130,7 +139,13 @@ pub(crate) fn quote(alloc: Global, words: &str, text: &str) -> Result<String, Er
 }
 
 // The fault at a span with a message that quotes a text.
-fn refuse_text<T>(alloc: Global, start: usize, end: usize, words: &str, text: &str) -> Result<T, Error>
+fn refuse_text<T>(
+    alloc: Global,
+    start: usize,
+    end: usize,
+    words: &str,
+    text: &str,
+) -> Result<T, Error>
     ensures fault { IfErr result (λ e. Tells e (unreadable_at {A = T} start end (quoting words.now text.now))) }
     ensures refused { IsErr result }
 {
@@ -238,7 +253,13 @@ fn zero_at(source: &str, at: usize) -> (bool, usize)
 }
 
 // The number that the digits between two places write.
-fn number_between(alloc: Global, source: &str, start: usize, end: usize, words: &str) -> Result<usize, Error>
+fn number_between(
+    alloc: Global,
+    source: &str,
+    start: usize,
+    end: usize,
+    words: &str,
+) -> Result<usize, Error>
     requires ordered { start ≤ end }
     requires from { IsCharBoundary source.now start }
     requires to { IsCharBoundary source.now end }
@@ -252,7 +273,12 @@ fn number_between(alloc: Global, source: &str, start: usize, end: usize, words: 
 }
 
 // Digits as a count, or as the position of one.
-fn number_count_at(alloc: Global, source: &str, start: usize, end: usize) -> Result<(Option<Count>, usize), Error>
+fn number_count_at(
+    alloc: Global,
+    source: &str,
+    start: usize,
+    end: usize,
+) -> Result<(Option<Count>, usize), Error>
     requires ordered { start ≤ end }
     requires inside { end ≤ length source.now }
     requires from { IsCharBoundary source.now start }
@@ -264,7 +290,10 @@ fn number_count_at(alloc: Global, source: &str, start: usize, end: usize) -> Res
 {
     if has(source, end, b'$') {
         let position = number_between(alloc, source, start, end, "invalid count parameter: ")?;
-        Ok((Some(Count::Param(CountParam::Positional(position))), end + 1))
+        Ok((
+            Some(Count::Param(CountParam::Positional(position))),
+            end + 1,
+        ))
     } else {
         let number = number_between(alloc, source, start, end, "invalid count: ")?;
         Ok((Some(Count::Literal(number)), end))
@@ -339,7 +368,13 @@ fn refuse_type<T>(alloc: Global, at: usize, byte: u8) -> Result<T, Error>
     if character.push(char::from(byte)).is_err() {
         return Err(Error::NoMemory);
     }
-    refuse_text(alloc, at, at + 1, "unknown format type: ", character.as_str())
+    refuse_text(
+        alloc,
+        at,
+        at + 1,
+        "unknown format type: ",
+        character.as_str(),
+    )
 }
 
 #[tactic(auto, unfolding(crate::specs::Options::type_at))]
@@ -392,12 +427,21 @@ fn argument_at(alloc: Global, source: &str, at: usize) -> Result<(Argument, usiz
     let first = byte_at(source, at);
     let digits_end = digits_end(source, at);
     if first.is_ascii_digit() && follows_argument(source, digits_end) {
-        let position = number_between(alloc, source, at, digits_end, "invalid positional argument: ")?;
+        let position = number_between(
+            alloc,
+            source,
+            at,
+            digits_end,
+            "invalid positional argument: ",
+        )?;
         return Ok((Argument::Positional(position), digits_end));
     }
     let name_end = word_end(source, at);
     if is_word_start(first) && follows_argument(source, name_end) {
-        let name = Span { start: at, end: name_end };
+        let name = Span {
+            start: at,
+            end: name_end,
+        };
         return Ok((Argument::Named(name), name_end));
     }
     refuse(alloc, at, at + 1, "invalid placeholder argument")

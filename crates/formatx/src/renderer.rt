@@ -95,8 +95,12 @@ impl<'a, V: FormatValue> Renderer<'a, V> {
         ensures ok { IfOk result (λ text. formatted (filled V.meaning self.now true) ≡ Ok (string_bytes text)) }
         ensures err { IfErr result (λ e. Tells e (formatted (filled V.meaning self.now true))) }
     {
-        self.template
-            .print(self.alloc, self.values.as_slice(), self.names.as_slice(), true)
+        self.template.print(
+            self.alloc,
+            self.values.as_slice(),
+            self.names.as_slice(),
+            true,
+        )
     }
 
     /// The template's text. A placeholder whose value is missing prints nothing.
@@ -104,7 +108,11 @@ impl<'a, V: FormatValue> Renderer<'a, V> {
         ensures ok { IfOk result (λ text. formatted (filled V.meaning self.now false) ≡ Ok (string_bytes text)) }
         ensures err { IfErr result (λ e. Tells e (formatted (filled V.meaning self.now false))) }
     {
-        self.template
-            .print(self.alloc, self.values.as_slice(), self.names.as_slice(), false)
+        self.template.print(
+            self.alloc,
+            self.values.as_slice(),
+            self.names.as_slice(),
+            false,
+        )
     }
 }

@@ -31,7 +31,7 @@ impl Model for Template {
 
     ghost view = { λ t. string_bytes t.source };
 
-    ghost invariant = { λ t. ∥ IsParsed (string_bytes t.source) t.parsed.segments.items ∥₁ };
+    ghost invariant = { λ t. IsParsed (string_bytes t.source) t.parsed.segments.items };
 }
 
 /// It shows the source.
@@ -83,7 +83,11 @@ fn has_name(source: &str, segments: &[Segment], name: &str) -> bool
 }
 
 // The names of the segments in order.
-fn collect_names<'a>(alloc: Global, source: &'a str, segments: &[Segment]) -> Result<Vec<&'a str>, Error>
+fn collect_names<'a>(
+    alloc: Global,
+    source: &'a str,
+    segments: &[Segment],
+) -> Result<Vec<&'a str>, Error>
     requires { Fits source.now segments.now }
     ensures ok { IfOk result (λ names. map (λ s. s.now) names.items ≡ names_in source.now segments.now) }
     ensures memory { IfErr result (λ e. e ≡ Error.NoMemory) }
@@ -154,7 +158,15 @@ impl Template {
         ensures err { IfErr result (λ e. Tells e (formatted (scene_over V.meaning self.now args.now named.now strict))) }
     {
         let mut output = String::new(alloc);
-        format::render(alloc, &mut output, self.source.as_str(), &self.parsed, args, named, strict)?;
+        format::render(
+            alloc,
+            &mut output,
+            self.source.as_str(),
+            &self.parsed,
+            args,
+            named,
+            strict,
+        )?;
         Ok(output)
     }
 }

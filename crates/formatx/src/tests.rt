@@ -49,13 +49,21 @@ fn numbers(rt: HostRuntime) -> Result<(), Fail> {
         ("{1} {} {0} {}", [1, 2, 3].as_slice(), "2 1 1 2"),
         ("{:+05}", [42].as_slice(), "+0042"),
         ("{:<05}|", [42].as_slice(), "42   |"),
-        ("{:8x?}|{0:#x?}|{0:>8x?}", [255].as_slice(), "ff|ff|      ff"),
+        (
+            "{:8x?}|{0:#x?}|{0:>8x?}",
+            [255].as_slice(),
+            "ff|ff|      ff",
+        ),
         ("{:00$}", [7].as_slice(), "0000007"),
         ("{:0$}", [7].as_slice(), "      7"),
         ("{:é<3}", [1].as_slice(), "1éé"),
         ("{:é^+07.0?}", [200].as_slice(), "é+200éé"),
         ("{:#03.2}", [-42].as_slice(), "-42"),
-        ("{:06}|{0:6}|{0:<+6}|{0:^6}|{0:>6}", [-42].as_slice(), "-00042|   -42|-42   | -42  |   -42"),
+        (
+            "{:06}|{0:6}|{0:<+6}|{0:^6}|{0:>6}",
+            [-42].as_slice(),
+            "-00042|   -42|-42   | -42  |   -42",
+        ),
         ("{:+#3?}", [-42].as_slice(), "-42"),
         ("{:-7x?}{0:X?}", [-42].as_slice(), "ffffffd6FFFFFFD6"),
         ("{:*<010.0X?}", [-42].as_slice(), "FFFFFFD6**"),
@@ -73,11 +81,27 @@ fn texts(rt: HostRuntime) -> Result<(), Fail> {
     let alloc = rt.alloc();
     for (source, values, want) in [
         ("{:?}", ["a\"é"].as_slice(), "\"a\\\"é\""),
-        ("{:?}", ["\0\t\r\n\u{1}\u{7f}\\'"].as_slice(), "\"\\0\\t\\r\\n\\u{1}\\u{7f}\\\\'\""),
-        ("{:-7}|{0:>7}|{0:.2}|{0:.0}|", ["né\"!"].as_slice(), "né\"!   |   né\"!|né||"),
+        (
+            "{:?}",
+            ["\0\t\r\n\u{1}\u{7f}\\'"].as_slice(),
+            "\"\\0\\t\\r\\n\\u{1}\\u{7f}\\\\'\"",
+        ),
+        (
+            "{:-7}|{0:>7}|{0:.2}|{0:.0}|",
+            ["né\"!"].as_slice(),
+            "né\"!   |   né\"!|né||",
+        ),
         ("{:.*}|", ["2", "abc"].as_slice(), "ab|"),
-        ("{:1$}", ["x", "abc"].as_slice(), "parse 0..0 count argument `abc` is not a valid usize"),
-        ("{:#010.2?}|{0:*^10?}", ["né\"!"].as_slice(), "\"né\\\"!\"|*\"né\\\"!\"**"),
+        (
+            "{:1$}",
+            ["x", "abc"].as_slice(),
+            "parse 0..0 count argument `abc` is not a valid usize",
+        ),
+        (
+            "{:#010.2?}|{0:*^10?}",
+            ["né\"!"].as_slice(),
+            "\"né\\\"!\"|*\"né\\\"!\"**",
+        ),
         ("{:1$.2$}|", ["abc", "+5", "002"].as_slice(), "ab   |"),
         ("{0:>3.1}", ["é"].as_slice(), "  é"),
     ] {
@@ -91,30 +115,100 @@ fn texts(rt: HostRuntime) -> Result<(), Fail> {
 fn faults(rt: HostRuntime) -> Result<(), Fail> {
     let alloc = rt.alloc();
     for (source, values, strict, want) in [
-        ("{:.*}", [].as_slice(), true, "parse 0..0 not enough arguments for `.*` precision"),
-        ("{:.*}", [].as_slice(), false, "parse 0..0 not enough arguments for `.*` precision"),
+        (
+            "{:.*}",
+            [].as_slice(),
+            true,
+            "parse 0..0 not enough arguments for `.*` precision",
+        ),
+        (
+            "{:.*}",
+            [].as_slice(),
+            false,
+            "parse 0..0 not enough arguments for `.*` precision",
+        ),
         ("{:x}", [1].as_slice(), true, "unsupported 0..4 LowerHex"),
         ("{:x}", [].as_slice(), true, "missing 0..4 0"),
         ("a{:x}b", [].as_slice(), false, "ab"),
         ("{3}", [1].as_slice(), true, "missing 0..3 3"),
         ("{name:w$}", [1].as_slice(), true, "missing 0..9 name"),
-        ("{0:w$x}", [1].as_slice(), true, "parse 3..4 missing count argument: `w`"),
-        ("{0:9$}", [1].as_slice(), true, "parse 0..0 count argument index 9 out of range"),
+        (
+            "{0:w$x}",
+            [1].as_slice(),
+            true,
+            "parse 3..4 missing count argument: `w`",
+        ),
+        (
+            "{0:9$}",
+            [1].as_slice(),
+            true,
+            "parse 0..0 count argument index 9 out of range",
+        ),
         ("{:18446744073709551615}", [1].as_slice(), true, "no memory"),
         ("}", [].as_slice(), true, "parse 0..1 unmatched `}`"),
         ("}}}", [].as_slice(), true, "parse 2..3 unmatched `}`"),
-        ("{", [].as_slice(), true, "parse 1..1 unexpected end of format string"),
-        ("{0", [].as_slice(), true, "parse 1..2 invalid placeholder argument"),
-        ("{-1}", [].as_slice(), true, "parse 1..2 invalid placeholder argument"),
-        ("{:0width$}", [].as_slice(), true, "parse 3..4 unknown format type: `w`"),
-        ("{:é}", [].as_slice(), true, "parse 2..3 unknown format type: `Ã`"),
-        ("{:.", [].as_slice(), true, "parse 2..3 expected precision after `.`"),
-        ("{:.}", [].as_slice(), true, "parse 2..3 expected precision value after `.`"),
+        (
+            "{",
+            [].as_slice(),
+            true,
+            "parse 1..1 unexpected end of format string",
+        ),
+        (
+            "{0",
+            [].as_slice(),
+            true,
+            "parse 1..2 invalid placeholder argument",
+        ),
+        (
+            "{-1}",
+            [].as_slice(),
+            true,
+            "parse 1..2 invalid placeholder argument",
+        ),
+        (
+            "{:0width$}",
+            [].as_slice(),
+            true,
+            "parse 3..4 unknown format type: `w`",
+        ),
+        (
+            "{:é}",
+            [].as_slice(),
+            true,
+            "parse 2..3 unknown format type: `Ã`",
+        ),
+        (
+            "{:.",
+            [].as_slice(),
+            true,
+            "parse 2..3 expected precision after `.`",
+        ),
+        (
+            "{:.}",
+            [].as_slice(),
+            true,
+            "parse 2..3 expected precision value after `.`",
+        ),
         ("{:5", [].as_slice(), true, "parse 0..3 unmatched `{`"),
         ("{:??}", [].as_slice(), true, "parse 0..3 unmatched `{`"),
-        ("é{99999999999999999999}", [].as_slice(), true, "parse 3..23 invalid positional argument: `99999999999999999999`"),
-        ("{:18446744073709551616}", [].as_slice(), true, "parse 2..22 invalid count: `18446744073709551616`"),
-        ("{:18446744073709551616$}", [].as_slice(), true, "parse 2..22 invalid count parameter: `18446744073709551616`"),
+        (
+            "é{99999999999999999999}",
+            [].as_slice(),
+            true,
+            "parse 3..23 invalid positional argument: `99999999999999999999`",
+        ),
+        (
+            "{:18446744073709551616}",
+            [].as_slice(),
+            true,
+            "parse 2..22 invalid count: `18446744073709551616`",
+        ),
+        (
+            "{:18446744073709551616$}",
+            [].as_slice(),
+            true,
+            "parse 2..22 invalid count parameter: `18446744073709551616`",
+        ),
     ] {
         let text: String = told(alloc, printed::<u8>(alloc, source, values, strict))?;
         assert_eq!(rt; text.as_str(), want, "{source}");
@@ -141,9 +235,15 @@ fn names(rt: HostRuntime) -> Result<(), Fail> {
     assert_eq!(rt; names[0], "name");
     assert_eq!(rt; names[1], "n");
     assert_eq!(rt; names[2], "name");
-    assert_eq!(rt; format!(in alloc; "{template}")?.as_str(), "{name} has {n:w$} items {name}");
+    assert_eq!(rt;
+        format!(in alloc; "{template}")?.as_str(),
+        "{name} has {n:w$} items {name}"
+    );
     assert_eq!(rt; template.source(), "{name} has {n:w$} items {name}");
-    assert_eq!(rt; format!(in alloc; "{template:?}")?.as_str(), "Template { source: \"{name} has {n:w$} items {name}\" }");
+    assert_eq!(rt;
+        format!(in alloc; "{template:?}")?.as_str(),
+        "Template { source: \"{name} has {n:w$} items {name}\" }"
+    );
     Ok(())
 }
 
@@ -165,7 +265,10 @@ fn kinds(rt: HostRuntime) -> Result<(), Fail> {
     i64::MIN.display(&mut out)?;
     i128::MIN.display(&mut out)?;
     (-7isize).debug(DebugStyle::Plain, &mut out)?;
-    assert_eq!(rt; out.as_str(), "-128ffff80000000-9223372036854775808-170141183460469231731687303715884105728-7");
+    assert_eq!(rt;
+        out.as_str(),
+        "-128ffff80000000-9223372036854775808-170141183460469231731687303715884105728-7"
+    );
     out.clear();
     true.display(&mut out)?;
     false.debug(DebugStyle::Plain, &mut out)?;
@@ -208,6 +311,9 @@ fn output(rt: HostRuntime) -> Result<(), Fail> {
     let wide = printed::<u8>(alloc, "{:65537}", &[1], true)?;
     assert_eq!(rt; wide.len(), 65537);
     assert!(rt; wide.ends_with("  1"));
-    assert_eq!(rt; format!(in alloc; "{}", Error::NoMemory)?.as_str(), "no memory");
+    assert_eq!(rt;
+        format!(in alloc; "{}", Error::NoMemory)?.as_str(),
+        "no memory"
+    );
     Ok(())
 }

@@ -345,7 +345,12 @@ impl FormatValue for i8 {
     }
 
     fn debug(&self, style: DebugStyle, out: &mut String) -> Result<(), Error> {
-        debug_signed(i128::from(*self), u128::from(self.cast_unsigned()), style, out)
+        debug_signed(
+            i128::from(*self),
+            u128::from(self.cast_unsigned()),
+            style,
+            out,
+        )
     }
 
     fn display_shape(&self) -> Shape {
@@ -368,7 +373,12 @@ impl FormatValue for i16 {
     }
 
     fn debug(&self, style: DebugStyle, out: &mut String) -> Result<(), Error> {
-        debug_signed(i128::from(*self), u128::from(self.cast_unsigned()), style, out)
+        debug_signed(
+            i128::from(*self),
+            u128::from(self.cast_unsigned()),
+            style,
+            out,
+        )
     }
 
     fn display_shape(&self) -> Shape {
@@ -391,7 +401,12 @@ impl FormatValue for i32 {
     }
 
     fn debug(&self, style: DebugStyle, out: &mut String) -> Result<(), Error> {
-        debug_signed(i128::from(*self), u128::from(self.cast_unsigned()), style, out)
+        debug_signed(
+            i128::from(*self),
+            u128::from(self.cast_unsigned()),
+            style,
+            out,
+        )
     }
 
     fn display_shape(&self) -> Shape {
@@ -414,7 +429,12 @@ impl FormatValue for i64 {
     }
 
     fn debug(&self, style: DebugStyle, out: &mut String) -> Result<(), Error> {
-        debug_signed(i128::from(*self), u128::from(self.cast_unsigned()), style, out)
+        debug_signed(
+            i128::from(*self),
+            u128::from(self.cast_unsigned()),
+            style,
+            out,
+        )
     }
 
     fn display_shape(&self) -> Shape {

@@ -7,5 +7,5 @@ use Rattle.formatx.proofs.value.push_signed.Goals as goal
 
 pub take_back-requires : goal.take_back-requires
 take_back-requires c =
-    let now : string_bytes c.push_unsigned.new.out ≡ string_bytes c.args.out.now ++ 45 ∷ [] = grind (arith, nat_tests) in
-    (string_bytes c.args.out.now, sym c.len-len.ensures, IsUtf8-string_bytes c.args.out.now, (45 ∷ [], now))
+    let now : string_bytes c.push_unsigned-2.new.out ≡ string_bytes c.args.out.now ++ 45 ∷ [] = grind (arith, nat_tests) in
+    (string_bytes c.args.out.now, grind arith, IsUtf8-string_bytes c.args.out.now, (45 ∷ [], now))
