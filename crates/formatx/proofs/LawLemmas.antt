@@ -1,9 +1,8 @@
 -- Proofs of the laws.
-use Rattle.std.proofs.Common.{◌≡◌, ℕ, ◌+◌, Bool, true, false, List, [], ◌∷◌, ◌++◌, Option, Some, None, Result, Ok, Err, refl, ap, ◌∙◌, sym, IsSome}
+use Rattle.std.proofs.Common.{◌≡◌, ℕ, ◌+◌, true, false, List, [], ◌∷◌, Option, Some, None, Result, Ok, Err, refl, ap, IsSome}
 use Rattle.formatx.specs.Fault.{Fault, ◌>>=◌}
-use Rattle.formatx.specs.Segments.{segments_of}
 use Rattle.formatx.specs.Values.{Meaning}
-use Rattle.formatx.specs.Text.{Scene, Outcome, argument_text, continued, formatted, placeholder_text, precision_of, precision_takes, rendered, segment_takes, segment_text, value_at, whole}
+use Rattle.formatx.specs.Text.{Scene, argument_text, precision_of, precision_takes, rendered, segment_takes, segment_text, value_at, whole}
 use Rattle.formatx.specs.Laws.{AllHaveValues, FinishesAgree, HasValue, with_strict}
 use Rattle.formatx.specs.declared.ast.Placeholder.{Placeholder}
 use Rattle.formatx.specs.declared.ast.Segment.{Segment}

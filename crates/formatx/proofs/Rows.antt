@@ -1,5 +1,5 @@
 -- Worked rows of the definitions, computed.
-use Rattle.std.proofs.Common.{◌≡◌, ℕ, List, [], ◌∷◌, ◌++◌, true, false, Some, None, Ok, Err, pos, negsuc, refl}
+use Rattle.std.proofs.Common.{◌≡◌, ℕ, List, [], ◌∷◌, ◌++◌, false, Ok, Err, pos, refl}
 use Rattle.std.specs.Prelude.{codes, Result}
 use Rattle.std.specs.Str.{chars}
 use Rattle.std.specs.Char.{encode_utf8}
@@ -8,7 +8,7 @@ use Rattle.formatx.specs.Fault.{Fault, unreadable, unsupported, span}
 use Rattle.formatx.specs.Options.{count_at, precision_at, type_at}
 use Rattle.formatx.specs.Segments.{segments_from, segments_of, placeholder_at, spec_at, options_at, argument_at}
 use Rattle.formatx.specs.Values.{Meaning, integer_meaning, str_meaning}
-use Rattle.formatx.specs.Text.{formatted, formatted_by_position, Scene}
+use Rattle.formatx.specs.Text.{formatted, formatted_by_position}
 use Rattle.formatx.specs.declared.ast.FormatType.TheVariants.{LowerHex}
 
 abbrev n : ℕ → Meaning

@@ -1,13 +1,13 @@
 -- The longest run of bytes that pass a test, as `position` finds its end, and the numbers that texts write.
-use Rattle.std.proofs.Common.{◌≡◌, ℕ, suc, ◌+◌, ◌-◌, ◌^◌, ◌<◌, ◌≤◌, Bool, true, false, cond, not, ltb, ◌&&◌, List, [], ◌∷◌, length, drop, get_or, zero, add-zero, add-one, add-suc, Option, Some, None, Result, Ok, Err, refl, arith, ap, ◌∙◌, sym, unwrap_or, rules, tests}
+use Rattle.std.proofs.Common.{◌≡◌, ℕ, suc, ◌+◌, ◌<◌, ◌≤◌, Bool, true, false, cond, not, ltb, List, [], ◌∷◌, length, drop, get_or, zero, add-zero, add-one, add-suc, Option, Some, None, Result, Ok, Err, refl, arith, ap, sym, unwrap_or}
 use Rattle.std.specs.List.{prefix_len}
 use Rattle.std.specs.Result.{result_ok}
 use Rattle.std.proofs.lemmas.Bool.Decides.{nat_tests}
 use Rattle.std.specs.Str.{IsUtf8, IsCharBoundary}
-use Rattle.std.specs.Str.Parse.{AllDigits, ParsesUnsigned, without_leading_plus, digits_value}
-use Rattle.std.proofs.lemmas.Str.{IsCharBoundary-after_ascii, lead_after_ascii}
+use Rattle.std.specs.Str.Parse.{AllDigits, ParsesUnsigned, without_leading_plus}
+use Rattle.std.proofs.lemmas.Str.{IsCharBoundary-after_ascii}
 use Rattle.std.proofs.lemmas.List.{get_or-drop, length-drop}
-use Rattle.std.proofs.lemmas.List.Sums.{prefix_len_passes, prefix_len_stops, prefix_len-le-length}
+use Rattle.std.proofs.lemmas.List.Sums.{prefix_len_passes, prefix_len-le-length}
 use Rattle.formatx.specs.Words.{all_digits, usize_of}
 
 -- a run of what doesn't fail is a run of what passes

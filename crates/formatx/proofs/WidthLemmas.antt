@@ -1,13 +1,12 @@
 -- A field has at least its width in characters.
-use Rattle.std.proofs.Common.{◌≡◌, ℕ, zero, suc, ◌+◌, ◌-◌, ◌/◌, ◌<◌, ◌≤◌, Bool, true, false, cond, eqb, List, [], ◌∷◌, ◌++◌, length, take, drop, get_or, Option, Some, None, IfSome, refl, arith, ap, ◌∙◌, sym, unwrap_or, ◌&&◌, ◌||◌, lit<, subst}
-use Rattle.std.specs.Prelude.{replicate, codes, encode_utf8_all, is_some}
+use Rattle.std.proofs.Common.{◌≡◌, ℕ, zero, suc, ◌+◌, ◌<◌, ◌≤◌, Bool, true, false, cond, eqb, List, [], ◌∷◌, ◌++◌, length, take, drop, get_or, Option, Some, None, IfSome, refl, arith, ap, ◌∙◌, unwrap_or}
+use Rattle.std.specs.Prelude.{replicate}
 use Rattle.std.specs.Str.{IsUtf8, all_scalars, chars}
 use Rattle.std.specs.Char.{IsScalar, encode_utf8}
 use Rattle.std.proofs.lemmas.Bool.Decides.{nat_tests}
 use Rattle.std.proofs.lemmas.List.{length-append}
-use Rattle.std.proofs.lemmas.Str.{chars-append, chars-encodes, scalars-chars, IsUtf8-append, IsUtf8-drop, IsUtf8-nil, IsCharBoundary-after_ascii}
-use Rattle.formatx.specs.Values.{Meaning}
-use Rattle.formatx.specs.Field.{Body, aligned, body_of, by_shape, copies, cut, field_text, gap_of, is_aligned, laid_out, number_body, padding_of, sign_text, shaped}
+use Rattle.std.proofs.lemmas.Str.{chars-append, chars-encodes, scalars-chars, IsUtf8-append, IsUtf8-drop, IsCharBoundary-after_ascii}
+use Rattle.formatx.specs.Field.{Body, aligned, body_of, by_shape, copies, cut, gap_of, is_aligned, laid_out, number_body, padding_of, sign_text, shaped}
 use Rattle.formatx.specs.Laws.{FieldsAreWide}
 use Rattle.formatx.specs.declared.ast.FormatSpec.{FormatSpec}
 use Rattle.formatx.specs.declared.ast.Align.{Align}

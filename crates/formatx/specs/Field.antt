@@ -1,5 +1,5 @@
 -- The text of one value under a specification whose width and precision are numbers.
-use Rattle.std.specs.Prelude.{ℕ, ◌+◌, ◌-◌, ◌/◌, Bool, true, false, cond, ◌||◌, List, [], ◌∷◌, ◌++◌, length, take, drop, slice_index, codes, chars, encode_utf8_all, replicate, ◌==◌, if◌then◌else◌, is_some, Option, Some, None, unwrap_or}
+use Rattle.std.specs.Prelude.{ℕ, ◌+◌, ◌-◌, ◌/◌, Bool, true, false, ◌||◌, List, [], ◌++◌, length, take, drop, slice_index, codes, chars, encode_utf8_all, replicate, ◌==◌, if◌then◌else◌, is_some, Option, Some, None, unwrap_or}
 use Rattle.std.specs.Str.{byte}
 use Rattle.formatx.specs.Values.{Meaning}
 use Rattle.formatx.specs.declared.format.Padding.{Padding}

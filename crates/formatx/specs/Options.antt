@@ -1,11 +1,10 @@
 -- The specification of a placeholder: its parts in order, each optional, each at the place where the one before it ends.
 -- A part is given with the place where it ends.
-use Rattle.std.specs.Prelude.{ℕ, ◌+◌, Bool, true, false, ◌&&◌, ◌||◌, List, [], ◌∷◌, slice_index, drop, chars, codes, encode_utf8, encode_utf8_all, ◌==◌, if◌then◌else◌, Option, Some, None, ok_or, not, Result, Ok, Err}
+use Rattle.std.specs.Prelude.{ℕ, ◌+◌, Bool, true, false, ◌&&◌, ◌||◌, List, slice_index, drop, chars, codes, encode_utf8, ◌==◌, if◌then◌else◌, Option, Some, None, ok_or, not, Result, Ok}
 use Rattle.std.specs.Char.{is_ascii_digit, len_utf8}
 use Rattle.std.specs.Str.{byte}
 use Rattle.formatx.specs.Fault.{Fault, unreadable, ◌>>=◌, span, unreadable_at, quoting}
 use Rattle.formatx.specs.Words.{has, ends_at, run_end, text_between, is_word_start, is_word, is_type_start, usize_of}
-use Rattle.formatx.specs.declared.ast.FormatSpec.{FormatSpec}
 use Rattle.formatx.specs.declared.ast.Align.{Align}
 use Rattle.formatx.specs.declared.ast.Align.TheVariants.{Left, Center, Right}
 use Rattle.formatx.specs.declared.ast.Sign.{Sign}

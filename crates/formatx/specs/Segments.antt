@@ -1,5 +1,5 @@
 -- A template: literals, escaped braces and placeholders, end to end, or the first fault from the left.
-use Rattle.std.specs.Prelude.{ℕ, zero, suc, ◌+◌, Bool, false, ◌&&◌, ◌||◌, List, [], ◌∷◌, length, slice_index, codes, if◌then◌else◌, None, Result, Ok, Err}
+use Rattle.std.specs.Prelude.{ℕ, zero, suc, ◌+◌, Bool, false, ◌&&◌, ◌||◌, List, [], ◌∷◌, length, slice_index, codes, if◌then◌else◌, None, Result, Ok}
 use Rattle.std.specs.Char.{is_ascii_digit}
 use Rattle.std.specs.Str.{byte}
 use Rattle.formatx.specs.Fault.{Fault, ◌>>=◌, span, unreadable_at}
@@ -11,7 +11,6 @@ use Rattle.formatx.specs.declared.ast.FormatSpec.{FormatSpec}
 use Rattle.formatx.specs.declared.ast.FormatType.TheVariants.{Display}
 use Rattle.formatx.specs.declared.ast.Segment.{Segment}
 use Rattle.formatx.specs.declared.ast.Segment.TheVariants.{Literal, EscapedOpen, EscapedClose, Placeholder as Placed}
-use Rattle.formatx.specs.declared.ast.Placeholder.{Placeholder}
 
 -- `}` or `:`, which follow an argument
 abbrev pub follows_argument : List ℕ → ℕ → Bool

@@ -1,5 +1,5 @@
 -- Where the parts of a template stand in its source.
-use Rattle.std.specs.Prelude.{◌≡◌, ◌≤◌, ◌<◌, ℕ, ◌+◌, List, [], ◌∷◌, All, length, Option, Some, None, false, MatchOption, ⊤}
+use Rattle.std.specs.Prelude.{◌≡◌, ◌≤◌, ◌<◌, ℕ, ◌+◌, List, [], ◌∷◌, All, None, false, MatchOption, ⊤}
 use Rattle.std.specs.Str.{IsCharBoundary}
 use Rattle.formatx.specs.declared.ast.Span.{Span}
 use Rattle.formatx.specs.declared.ast.FormatSpec.{FormatSpec}
@@ -7,7 +7,6 @@ use Rattle.formatx.specs.declared.ast.Argument.{Argument}
 use Rattle.formatx.specs.declared.ast.Argument.TheVariants as Of
 use Rattle.formatx.specs.declared.ast.Count.{Count}
 use Rattle.formatx.specs.declared.ast.Count.TheVariants.{Literal as Number, Param}
-use Rattle.formatx.specs.declared.ast.CountParam.{CountParam}
 use Rattle.formatx.specs.declared.ast.CountParam.TheVariants.{Positional, Named}
 use Rattle.formatx.specs.declared.ast.Precision.{Precision}
 use Rattle.formatx.specs.declared.ast.Precision.TheVariants.{Count as Counted, Star}

@@ -1,8 +1,7 @@
 -- What a template prints over values: the text of each segment in order, up to the first fault.
-use Rattle.std.specs.Prelude.{◌≡◌, ℕ, ◌+◌, Bool, true, false, List, [], ◌∷◌, ◌++◌, codes, map, string_bytes, slice_get, bytes_eq, encode_utf8, if◌then◌else◌, Option, Some, None, Result, Ok, Err, ok_or, option_and_then}
-use Rattle.std.specs.Str.{byte}
+use Rattle.std.specs.Prelude.{◌≡◌, ℕ, ◌+◌, Bool, true, false, List, [], ◌∷◌, ◌++◌, codes, map, string_bytes, slice_get, bytes_eq, if◌then◌else◌, Option, Some, None, Result, Ok, Err, ok_or, option_and_then}
 use Rattle.numerals.specs.Numeral.{numeral}
-use Rattle.formatx.specs.Fault.{Fault, unreadable, missing, unsupported, ◌>>=◌, span, unreadable_at, quoting}
+use Rattle.formatx.specs.Fault.{Fault, unreadable, missing, unsupported, ◌>>=◌, span, quoting}
 use Rattle.formatx.specs.Words.{usize_of, text_between}
 use Rattle.formatx.specs.Segments.{segments_of}
 use Rattle.formatx.specs.Values.{Meaning}
@@ -16,7 +15,6 @@ use Rattle.formatx.specs.declared.ast.Argument.{Argument}
 use Rattle.formatx.specs.declared.ast.Argument.TheVariants.{Implicit, Positional, Named}
 use Rattle.formatx.specs.declared.ast.Count.{Count}
 use Rattle.formatx.specs.declared.ast.Count.TheVariants.{Literal, Param}
-use Rattle.formatx.specs.declared.ast.CountParam.{CountParam}
 use Rattle.formatx.specs.declared.ast.CountParam.TheVariants.{Positional as AtPosition, Named as ByName}
 use Rattle.formatx.specs.declared.ast.Precision.{Precision}
 use Rattle.formatx.specs.declared.ast.Precision.TheVariants.{Count as Counted, Star}

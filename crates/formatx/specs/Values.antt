@@ -1,5 +1,5 @@
 -- What the carried values mean: their texts, and the shapes that say how a text is padded.
-use Rattle.std.specs.Prelude.{◌≡◌, ℕ, ◌+◌, ◌^◌, Bool, true, false, ◌||◌, List, [], ◌∷◌, ◌++◌, codes, chars, encode_utf8, ◌==◌, nat_lt, flat_map, ℤ, pos, negsuc, suc, if◌then◌else◌}
+use Rattle.std.specs.Prelude.{◌≡◌, ℕ, Bool, true, false, ◌||◌, List, [], ◌∷◌, ◌++◌, codes, chars, encode_utf8, ◌==◌, nat_lt, flat_map, ℤ, pos, negsuc, suc, if◌then◌else◌}
 use Rattle.std.specs.Str.{byte}
 use Rattle.numerals.specs.Numeral.{numeral}
 use Rattle.formatx.specs.declared.value.Shape.{Shape}

@@ -1,7 +1,6 @@
 -- Each turn passes one character.
-use Rattle.std.proofs.Common.{◌≡◌, ◌≤◌, length, take, arith}
 use Rattle.std.specs.Str.Iter.{chars_rest}
-use Rattle.formatx.proofs.CharLemmas.{IsCutAt-start, IsCutAt-boundary, IsCutAt-step, IsCutAt-front, IsCutAt-end}
+use Rattle.formatx.proofs.CharLemmas.{IsCutAt-start, IsCutAt-boundary, IsCutAt-step}
 use Rattle.formatx.proofs.format.front.Goals as goal
 
 pub characters-init : goal.characters-init

@@ -1,5 +1,5 @@
 -- There is room for one copy more, and it stands after the others.
-use Rattle.std.proofs.Common.{◌≡◌, ◌+◌, ◌*◌, ◌<◌, ◌≤◌, ◌++◌, sym, ap, ◌∙◌, append_assoc, arith}
+use Rattle.std.proofs.Common.{◌≡◌, ◌+◌, ◌*◌, ◌≤◌, ◌++◌, sym, ap, ◌∙◌, append_assoc, arith}
 use Rattle.std.specs.Prelude.{string_bytes, string_len, encode_utf8}
 use Rattle.std.specs.Char.{len_utf8}
 use Rattle.std.proofs.Math.Nat.{mul-le-mul_right}

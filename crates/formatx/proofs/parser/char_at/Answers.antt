@@ -1,5 +1,5 @@
 -- The text holds the bytes of its first character.
-use Rattle.std.proofs.Common.{arith, ap, length}
+use Rattle.std.proofs.Common.{arith}
 use Rattle.std.proofs.lemmas.Str.{length-encode}
 use Rattle.std.proofs.lemmas.List.{length-append, length-drop}
 use Rattle.formatx.proofs.parser.char_at.Goals as goal

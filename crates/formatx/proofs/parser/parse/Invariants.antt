@@ -1,7 +1,5 @@
 -- The segments read so far, and then what the rest of the source gives, are what the whole source gives.
-use Rattle.std.proofs.Common.{◌≡◌, ◌+◌, ◌-◌, ◌≤◌, ℕ, length, List}
-use Rattle.std.specs.Str.{IsCharBoundary}
-use Rattle.formatx.specs.Spans.{Fits, Tiles}
+use Rattle.std.proofs.Common.{◌-◌, length}
 use Rattle.formatx.proofs.ReadLemmas.{IsReadTo}
 use Rattle.formatx.proofs.parser.parse.Given as goal
 

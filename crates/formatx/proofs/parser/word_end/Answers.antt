@@ -1,10 +1,9 @@
 -- The run ends where `position` finds a byte of no word.
-use Rattle.std.proofs.Common.{◌≡◌, ℕ, ◌+◌, ◌-◌, ◌∙◌, take, not, arith, rules, tests, ap, unwrap_or, length, drop}
+use Rattle.std.proofs.Common.{◌≡◌, ℕ, ◌+◌, ◌-◌, ◌∙◌, take, not, rules, tests, ap, unwrap_or, length, drop}
 use Rattle.formatx.specs.Words.{is_word}
 use Rattle.std.specs.List.{prefix_len}
 use Rattle.std.proofs.lemmas.Iterator.{YieldsList-from_slice}
 use Rattle.std.proofs.lemmas.Iterator.Search.{position_from_yields_List}
-use Rattle.std.proofs.lemmas.Bool.Decides.{nat_tests}
 use Rattle.std.proofs.lemmas.List.{take_rest}
 use Rattle.formatx.proofs.Runs.{run_from_position}
 use Rattle.formatx.proofs.parser.word_end.Goals as goal

@@ -1,6 +1,6 @@
 -- The text before the `-` may be taken back.
 use Rattle.std.specs.Prelude.{string_bytes}
-use Rattle.std.proofs.Common.{◌≡◌, ◌∷◌, [], ◌++◌, sym, arith}
+use Rattle.std.proofs.Common.{◌≡◌, ◌∷◌, [], ◌++◌, arith}
 use Rattle.std.proofs.lemmas.Bool.Decides.{nat_tests}
 use Rattle.std.proofs.lemmas.Str.{IsUtf8-string_bytes}
 use Rattle.formatx.proofs.value.push_signed.Goals as goal
