@@ -1,9 +1,7 @@
 -- What the digits of a number are to those of its quotient.
-use Rattle.std.proofs.Common.{zero, Bool, Result, Ok, Err, ◌≢◌, append_assoc, ◌≡◌, ℕ, suc, ◌+◌, ◌*◌, ◌/◌, ◌%◌, ◌^◌, ◌<◌, ◌≤◌, List, [], ◌∷◌, ◌++◌, length, map, refl, sym, ap, ◌∙◌, arith, length-append, get_or}
-use Rattle.std.proofs.Math.Nat.{pow-suc, pow-zero, mul-le-mul_left, div-lt_iff_lt-mul, le-div_iff_mul-le}
+use Rattle.std.proofs.Common.{ap, Result, Ok, Err, ◌≢◌, ◌≡◌, ℕ, suc, ◌+◌, ◌*◌, ◌/◌, ◌%◌, ◌^◌, ◌<◌, ◌≤◌, List, [], ◌∷◌, ◌++◌, length, map, ◌∙◌, arith, length-append, get_or}
+use Rattle.std.proofs.Math.Nat.{pow-suc, pow-zero, le-div_iff_mul-le}
 use Rattle.std.proofs.lemmas.Grind.{common_steps}
-use Rattle.std.proofs.lemmas.List.{map_push}
-use Rattle.std.specs.Fmt.{digit_glyph}
 use Rattle.std.specs.Char.{digit_value}
 use Rattle.std.specs.Option.{SomeIff}
 use Rattle.std.specs.Result.{result_ok}
@@ -11,7 +9,7 @@ use Rattle.std.specs.Int.Digits.{number_from_digits_after}
 use Rattle.std.specs.Str.Parse.{AllDigits, digits_value, ParsesUnsigned, without_leading_plus}
 use Rattle.std.proofs.lemmas.Int.Digits.{digits_value_is}
 use Rattle.std.proofs.lemmas.Str.Parse.{without_leading_plus_none}
-use Rattle.numerals.specs.Numeral.{place_sum, AllBelow, IsNumeral, AddsNumeral, IsDigitText, text_value}
+use Rattle.numerals.specs.Numeral.{place_sum, AllBelow, IsNumeral, IsDigitText, text_value}
 
 pub place_sum-push : (b d : ℕ) (ds : List ℕ) → place_sum b (ds ++ d ∷ []) ≡ place_sum b ds * b + d
 place_sum-push b d [] = grind (arith, common_steps)
@@ -42,38 +40,6 @@ IsNumeral-push b n ds pos high k =
       no_leading_zero = λ _. leads b (n / b) ds (n % b) quot k;
     }
 
--- a number below its base fits one digit
-pub one_fits : (b n : ℕ) → n < b → n < b ^ 1
-one_fits b n h = rw (pow-suc b 0, pow-zero b) (omega arith)
-
--- a number fits one digit more than its quotient
-pub more_fits : (b n r : ℕ) → 0 < b → n / b < b ^ r → n < b ^ (1 + r)
-more_fits b n r pos h =
-    let e : b ^ (1 + r) ≡ b ^ r * b = grind (arith, pow-suc b r) in
-    rw e ((div-lt_iff_lt-mul pos).0 h)
-
--- a number of k bits has at most k digits, where that holds of its quotient
-pub more_short : (b n r : ℕ) → 2 ≤ b → b ≤ n → ((k : ℕ) → 0 < k → n / b < 2 ^ k → r ≤ k) → (k : ℕ) → 0 < k → n < 2 ^ k → 1 + r ≤ k
-more_short b n r low high ih zero pos lt = absurd (omega (arith, pos))
-more_short b n r low high ih (suc zero) pos lt = absurd (omega (arith, lt))
-more_short b n r low high ih (suc (suc j)) pos lt =
-    let half : n < 2 ^ suc j * 2 = rw (pow-suc 2 (suc j)) at lt in
-    let wide : 2 ^ suc j * 2 ≤ 2 ^ suc j * b = mul-le-mul_left (2 ^ suc j) low in
-    let below : n / b < 2 ^ suc j = (div-lt_iff_lt-mul (omega arith)).1 (omega arith) in
-    omega (arith, ih (suc j) (omega arith) below)
-
--- one more glyph writes one more digit
-pub adds_one : (b n : ℕ) (upper : Bool) (old new : List ℕ) → n < b → new ≡ old ++ digit_glyph upper n ∷ [] → AddsNumeral old new b n upper
-adds_one b n upper old new h e = (digit_glyph upper n ∷ [], (n ∷ [], IsNumeral-small b n h, refl), e)
-
-pub adds_more : (b n : ℕ) (upper : Bool) (old mid new : List ℕ) → 0 < b → b ≤ n → AddsNumeral old mid b (n / b) upper → new ≡ mid ++ digit_glyph upper (n % b) ∷ [] → AddsNumeral old new b n upper
-adds_more b n upper old mid new pos high a e =
-    let ds : List ℕ = a.1.0 in
-    let all : new ≡ old ++ map (digit_glyph upper) (ds ++ n % b ∷ []) =
-    e ∙ ap (λ (x : List ℕ). x ++ digit_glyph upper (n % b) ∷ []) (a.2 ∙ ap (λ (x : List ℕ). old ++ x) a.1.2)
-    ∙ append_assoc old _ _ ∙ ap (λ (x : List ℕ). old ++ x) (sym (map_push (digit_glyph upper) ds (n % b))) in
-    (map (digit_glyph upper) (ds ++ n % b ∷ []), (ds ++ n % b ∷ [], IsNumeral-push b n ds pos high a.1.1, refl), all)
-
 -- std's reading of digits, by place values
 number_after-place_sum : (b n : ℕ) (ds : List ℕ) → number_from_digits_after b n ds ≡ n * b ^ length ds + place_sum b ds
 number_after-place_sum b n [] = grind (arith, common_steps, pow-zero b)
@@ -91,6 +57,10 @@ AllBelow-from_digits b (c ∷ cs) h = (h.0, AllBelow-from_digits b cs h.1)
 pub digits_from-AllBelow : (b : ℕ) (bs : List ℕ) → AllBelow b (map digit_value bs) → AllDigits b bs
 digits_from-AllBelow b [] h = tt
 digits_from-AllBelow b (c ∷ cs) h = (h.0, digits_from-AllBelow b cs h.1)
+
+pub no_plus : (bs : List ℕ) → ((rest : List ℕ) → bs ≡ 43 ∷ [] ++ rest → ⊥) → get_or bs 0 0 ≢ 43
+no_plus [] h = λ e. absurd (omega (arith, e))
+no_plus (c ∷ cs) h = λ e. h cs (ap (λ x. x ∷ cs) e)
 
 -- what std's reading answers of a text that does not begin with a plus
 pub reads_text : {E : Type 0} (b : ℕ) (bs : List ℕ) (r : Result ℕ E) → get_or bs 0 0 ≢ 43 → ParsesUnsigned 128 b bs r → SomeIff (result_ok r) (IsDigitText b bs × (text_value b bs < 2 ^ 128)) (text_value b bs)

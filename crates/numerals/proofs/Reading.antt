@@ -1,10 +1,14 @@
 -- What a numeral's characters stand for, and which texts are numerals.
-use Rattle.std.proofs.Common.{Bool, true, false, ◌≢◌, ◌≡◌, ℕ, ◌^◌, ◌<◌, ◌≤◌, List, [], ◌∷◌, length, map, refl, sym, ap, ◌∙◌, subst, arith, get_or}
+use Rattle.std.proofs.Common.{suc, zero, Bool, true, false, ◌≢◌, ◌≡◌, ℕ, ◌^◌, ◌<◌, ◌≤◌, List, [], ◌∷◌, length, map, refl, sym, ap, ◌∙◌, subst, arith, get_or}
 use Rattle.std.proofs.lemmas.List.{length-map}
 use Rattle.std.proofs.lemmas.Bool.Decides.{nat_tests}
 use Rattle.std.specs.Fmt.{digit_glyph}
 use Rattle.std.specs.Char.{digit_value}
-use Rattle.numerals.specs.Numeral.{place_sum, AllBelow, IsNumeral, numeral, IsDigitText, text_value}
+use Rattle.numerals.specs.Numeral.{place_sum, AllBelow, IsNumeral, numeral, IsDigitText, text_value, base_of}
+use Rattle.numerals.specs.declared.Radix.{Radix}
+use Rattle.numerals.specs.declared.Radix.TheVariants.{Two, Eight, Ten, Sixteen}
+use Rattle.std.specs.Str.{IsAscii, IsUtf8}
+use Rattle.std.proofs.lemmas.Str.{IsUtf8-from_ascii}
 use Rattle.numerals.specs.Laws.{IsOfCase, AllOfCase, HasNoLeadingZero}
 use Rattle.numerals.proofs.Unique.{numeral_is, numeral_only}
 
@@ -65,3 +69,27 @@ numeral-text_value b upper text low high it letters lead fits =
       no_leading_zero = λ more. let l : 1 < length text = omega (arith, len, more) in leads_on text (AllBelow-wider b 16 ds high it.1) l (lead l);
     } in
     numeral_only b (text_value b text) upper text low fits (ds, own, sym (glyphs_of_values upper b text high it.1 letters))
+
+-- a digit's character is ASCII
+pub digit_glyph-lt : (upper : Bool) (d : ℕ) → d < 16 → digit_glyph upper d < 128
+digit_glyph-lt true d h = grind (arith, nat_tests)
+digit_glyph-lt false d h = grind (arith, nat_tests)
+
+glyphs-IsAscii : (upper : Bool) (b : ℕ) (ds : List ℕ) → b ≤ 16 → AllBelow b ds → IsAscii (map (digit_glyph upper) ds)
+glyphs-IsAscii upper b [] high h i = omega arith
+glyphs-IsAscii upper b (d ∷ ds) high h zero = digit_glyph-lt upper d (omega (arith, high, h.0))
+glyphs-IsAscii upper b (d ∷ ds) high h (suc i) = glyphs-IsAscii upper b ds high h.1 i
+
+-- numerals are ASCII, so they are text
+pub numeral-IsAscii : (b n : ℕ) (upper : Bool) → 2 ≤ b → b ≤ 16 → n < 2 ^ 128 → IsAscii (numeral b upper n)
+numeral-IsAscii b n upper low high fits = let it = numeral_is b n upper low fits in subst IsAscii (sym it.2) (glyphs-IsAscii upper b it.0 high it.1.below)
+
+pub numeral-IsUtf8 : (b n : ℕ) (upper : Bool) → 2 ≤ b → b ≤ 16 → n < 2 ^ 128 → IsUtf8 (numeral b upper n)
+numeral-IsUtf8 b n upper low high fits = IsUtf8-from_ascii (numeral b upper n) (numeral-IsAscii b n upper low high fits)
+
+-- both ends of the bases
+pub base_of-le : (radix : Radix) → (2 ≤ base_of radix) × (base_of radix ≤ 16)
+base_of-le Two = (omega arith, omega arith)
+base_of-le Eight = (omega arith, omega arith)
+base_of-le Ten = (omega arith, omega arith)
+base_of-le Sixteen = (omega arith, omega arith)

@@ -1,6 +1,6 @@
 -- Each number has exactly one numeral, and the function `numeral` gives it.
 use Rattle.std.proofs.Common.{zero, Bool, false, append_assoc, ◌≡◌, ℕ, suc, ◌+◌, ◌-◌, ◌*◌, ◌/◌, ◌%◌, ◌^◌, ◌<◌, ◌≤◌, List, [], ◌∷◌, ◌++◌, length, map, refl, sym, ap, ◌∙◌, ⊎_elim, ◌⊎◌, inl, inr, subst, arith, ◌↔◌}
-use Rattle.std.proofs.Math.Nat.{pow-suc, pow-zero, mod-eq_of_lt, div-eq_of_lt, pow-le-pow_left, pow-le-pow_right, mul-le-mul_right, div-lt_iff_lt-mul, le-div_iff_mul-le}
+use Rattle.std.proofs.Math.Nat.{pow-suc, pow-zero, mod-eq_of_lt, div-eq_of_lt, pow-le-pow_left, pow-le-pow_right, mul-le-mul_right, mul-le-mul_left, div-lt_iff_lt-mul, le-div_iff_mul-le}
 use Rattle.std.proofs.lemmas.Nat.{mul-add-lt}
 use Rattle.std.proofs.lemmas.Bool.{cases_order}
 use Rattle.std.proofs.lemmas.Bool.Decides.{nat_tests}
@@ -156,3 +156,39 @@ pub length-numeral_is : (b n : ℕ) (upper : Bool) (ds : List ℕ) → 2 ≤ b �
 length-numeral_is b n upper ds low fits it =
     let own = length-numeral b n upper low fits in
     ap length (one_numeral b n ds own.0 (omega (arith, low)) it own.1) ∙ sym own.2
+
+-- a number between two powers of the base
+pub length-numeral-between : (b n k : ℕ) (upper : Bool) → 2 ≤ b → n < 2 ^ 128 → b ^ k ≤ n → n < b ^ suc k → length (numeral b upper n) ≡ suc k
+length-numeral-between b n k upper low fits above below =
+    let it = length-numeral b n upper low fits in
+    let pos : 0 < b = omega (arith, low) in
+    it.2 ∙ ⊎_elim
+    (λ same. same)
+    (λ other. absurd (⊎_elim
+    (λ fewer.
+    let top : place_sum b it.0 < b ^ length it.0 = place_sum-lt b it.0 it.1.below in
+    let wide : b ^ length it.0 ≤ b ^ k = pow-le-pow_right pos (omega (arith, fewer)) in
+    omega (arith, top, it.1.adds_up, wide, above))
+    (λ more.
+    let wide : b ^ suc k ≤ b ^ (length it.0 - 1) = pow-le-pow_right pos (omega (arith, more)) in
+    omega (arith, wide, below, numeral-ge b n it.0 it.1 (omega (arith, more))))
+    other))
+    (cases_order (length it.0) (suc k))
+
+-- a number below its base has one digit
+pub length-numeral-small : (b n : ℕ) (upper : Bool) → 2 ≤ b → n < 2 ^ 128 → n < b → length (numeral b upper n) ≡ 1
+length-numeral-small b n upper low fits small = sym (length-numeral_is b n upper (n ∷ []) low fits (IsNumeral-small b n small))
+
+-- half of a number takes a bit less
+pub quotient-lt : (b n k : ℕ) → 2 ≤ b → 0 < k → n < 2 ^ k → n / b < 2 ^ (k - 1)
+quotient-lt b n zero low some fits = absurd (omega (arith, some))
+quotient-lt b n (suc k) low some fits =
+    let same : suc k - 1 ≡ k = omega arith in
+    let wide : 2 ^ k * 2 ≤ 2 ^ k * b = mul-le-mul_left (2 ^ k) low in
+    let pos : 0 < b = omega (arith, low) in
+    rw same ((div-lt_iff_lt-mul pos).1 (omega (arith, fits, pow-suc 2 k, wide)))
+
+-- the function, written out
+pub numeral_spelled : (b n : ℕ) (upper : Bool) → digits_onto 128 b upper n [] ≡ numeral b upper n
+unfolding numeral
+numeral_spelled b n upper = refl

@@ -1,4 +1,5 @@
-use Rattle.std.specs.Prelude.{◌≡◌, ℕ, ◌+◌, ◌*◌, ◌^◌, ◌<◌, List, [], ◌∷◌, ◌++◌, length, map, slice_index, Bool, ⊤}
+-- What a numeral is, and what digit characters stand for.
+use Rattle.std.specs.Prelude.{◌≡◌, ℕ, ◌+◌, ◌*◌, ◌^◌, ◌<◌, List, [], ◌∷◌, length, map, slice_index, Bool, ⊤}
 use Rattle.std.specs.Fmt.{digit_glyph, digits_onto}
 use Rattle.std.specs.Char.{digit_value}
 use Rattle.numerals.specs.declared.Radix.{Radix}
@@ -35,14 +36,6 @@ IsNumeralText b n upper text = (ds : List ℕ) × IsNumeral b n ds × (text ≡ 
 -- the numeral of n in base b as a function, for a number of at most 128 digits
 unfoldable pub numeral : ℕ → Bool → ℕ → List ℕ
 numeral b upper n = digits_onto 128 b upper n []
-
--- the new text is the old one with the numeral of n at its end
-abbrev pub AddsNumeral : List ℕ → List ℕ → ℕ → ℕ → Bool → Type 0
-AddsNumeral old new b n upper = (text : List ℕ) × IsNumeralText b n upper text × (new ≡ old ++ text)
-
--- n has this many digits
-abbrev pub HasDigits : ℕ → ℕ → ℕ → Type 0
-HasDigits b n count = (ds : List ℕ) × IsNumeral b n ds × (count ≡ length ds)
 
 -- one digit character or more, and nothing else
 abbrev pub IsDigitText : ℕ → List ℕ → Type 0

@@ -1,5 +1,0 @@
-use Rattle.numerals.proofs.Unique.{numeral-digits}
-use Rattle.numerals.proofs.numeral_is_std.Goals as goal
-
-pub returns : goal.returns
-returns c = numeral-digits

@@ -1,0 +1,11 @@
+pub mod Pieces
+pub mod LineLemmas
+pub mod UniqueRow
+pub mod FirstNumber
+pub mod ReadsRow
+pub mod FlatRow
+pub mod WordLemmas
+pub mod RewriteLemmas
+pub mod RefusalLemmas
+pub mod ReformatLemmas
+pub mod MessageLemmas

@@ -1,0 +1,11 @@
+pub mod Lines
+pub mod Kinds
+pub mod Format
+pub mod Headers
+pub mod Fault
+pub mod Rewrite
+pub mod Refusal
+pub mod Status
+pub mod Message
+pub mod Reformats
+pub mod Run

@@ -1,0 +1,10 @@
+pub mod Longest
+pub mod Digits
+pub mod Characters
+pub mod Options
+pub mod Spelled
+pub mod Runs
+pub mod OneAnswer
+pub mod Cutting
+pub mod Gives
+pub mod SomeAnswer

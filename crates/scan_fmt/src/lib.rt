@@ -1,0 +1,11 @@
+//! Reads tokens from a text by a format of literals and fields.
+#![tactic(auto)]
+
+mod directive;
+mod field;
+mod number;
+pub mod parse;
+mod read;
+#[cfg(test)]
+mod tests;
+mod text;

@@ -1,0 +1,7 @@
+pub mod Grammar
+pub mod Field
+pub mod Meaning
+pub mod Carried
+pub mod Printed
+pub mod Reading
+pub mod Laws

@@ -1,0 +1,157 @@
+//! Formats of `printf`, parsed and printed over values.
+#![tactic(auto)]
+
+ghost use Rattle.std.specs.Prelude.{◌≡◌, ◌⊎◌, map, string_bytes, IfOk, IfErr, Ok, Err};
+ghost use Rattle.sprintf.specs.Printed.{printed, take_param, take_text, take_field, PrintsFormat, RefusesFormat};
+ghost use Rattle.sprintf.specs.Reading.{Prints};
+
+mod arg;
+mod format;
+mod laws;
+pub mod parser;
+
+pub use arg::Arg;
+pub use format::Printf;
+pub use laws::{fills_its_width, one_element_list, one_value};
+pub use parser::{ConversionSpecifier, ConversionType, NumericParam};
+use parser::{FormatElement, parse_format_string};
+use std::alloc::Global;
+use thiserror::Error;
+
+/// Why a format wasn't printed.
+#[derive(Debug, Clone, PartialEq, Eq, Drop, Error)]
+pub enum PrintfError {
+    /// The format isn't in the grammar.
+    #[error("Error parsing the format string")]
+    ParseError,
+    /// A value doesn't take its conversion, or gives no number to a `*`.
+    #[error("Incorrect type passed as an argument")]
+    WrongType,
+    /// All elements were printed, and arguments are left.
+    #[error("Too many arguments passed")]
+    TooManyArgs,
+    /// An element wants an argument, and none is left.
+    #[error("Too few arguments passed")]
+    NotEnoughArgs,
+    /// A width or precision was handed to a value while it was still `*`.
+    #[error("Other error (should never happen)")]
+    Unknown,
+    /// There was no memory.
+    #[error("no memory")]
+    NoMemory,
+}
+
+/// An answer, or why a format wasn't printed.
+pub type Result<T> = std::result::Result<T, PrintfError>;
+
+/// Prints the arguments by the format, taken from left to right.
+///
+/// It is [`vsprintfp`] over the elements of the format, its refusals included.
+pub fn vsprintf<P: Printf>(alloc: Global, fmt: &str, args: &[P]) -> Result<String>
+    ensures ok { IfOk result (λ t. PrintsFormat fmt.now (map P.meaning args.now) (string_bytes t)) }
+    ensures err { IfErr result (λ e. RefusesFormat fmt.now (map P.meaning args.now) e ⊎ (e ≡ PrintfError.NoMemory)) }
+{
+    let elements = parse_format_string(alloc, fmt)?;
+    vsprintfp(alloc, &elements, args)
+}
+
+/// Prints the arguments by elements that were parsed before.
+///
+/// For each field that isn't `%%` it takes the width if it is `*`, then the precision if it is `*`, then the value.
+/// A caller's own `Printf` may answer any fault, and that is passed on.
+pub fn vsprintfp<P: Printf>(
+    alloc: Global,
+    elements: &[FormatElement<'_>],
+    args: &[P],
+) -> Result<String>
+    ensures ok { IfOk result (λ t. printed elements.now (map P.meaning args.now) ≡ Ok (string_bytes t)) }
+    ensures err { IfErr result (λ e. (printed elements.now (map P.meaning args.now) ≡ Err e) ⊎ (e ≡ PrintfError.NoMemory)) }
+{
+    let mut out = String::new(alloc);
+    let mut rest = args;
+    for element in elements {
+        match element {
+            FormatElement::Verbatim(text) => {
+                out.push_str(text).map_err(|_| PrintfError::NoMemory)?;
+            }
+            FormatElement::Format(spec) => rest = print_field(alloc, &mut out, spec, rest)?,
+        }
+    }
+    if rest.is_empty() {
+        Ok(out)
+    } else {
+        Err(PrintfError::TooManyArgs)
+    }
+}
+
+/// Prints one field, and gives the arguments that are left.
+fn print_field<'p, P: Printf>(
+    alloc: Global,
+    out: &mut String,
+    spec: &ConversionSpecifier,
+    args: &'p [P],
+) -> Result<&'p [P]>
+    ensures ok { IfOk result (λ rest. Prints (take_field spec.now (map P.meaning args.entry.now)) (string_bytes out.old) (string_bytes out.new) (map P.meaning rest.now)) }
+    ensures err { IfErr result (λ e. (take_field spec.now (map P.meaning args.entry.now) ≡ Err e) ⊎ (e ≡ PrintfError.NoMemory)) }
+{
+    if let ConversionType::PercentSign = spec.conversion_type {
+        out.push_str("%").map_err(|_| PrintfError::NoMemory)?;
+        return Ok(args);
+    }
+    let (width, after_width) = take_param(spec.width, args)?;
+    let (precision, rest) = take_param(spec.precision, after_width)?;
+    let spec = ConversionSpecifier {
+        width,
+        precision,
+        ..*spec
+    };
+    print_value(alloc, out, &spec, rest)
+}
+
+/// A width or a precision as a number, and the arguments that are left.
+fn take_param<P: Printf>(param: NumericParam, args: &[P]) -> Result<(NumericParam, &[P])>
+    ensures ok { IfOk result (λ r. take_param param (map P.meaning args.now) ≡ Ok (r.0, map P.meaning r.1.now)) }
+    ensures err { IfErr result (λ e. take_param param (map P.meaning args.now) ≡ Err e) }
+{
+    let NumericParam::FromArgument = param else {
+        return Ok((param, args));
+    };
+    let (first, rest) = args.split_first().ok_or(PrintfError::NotEnoughArgs)?;
+    let number = first.as_int().ok_or(PrintfError::WrongType)?;
+    Ok((NumericParam::Literal(number), rest))
+}
+
+/// Prints the next argument under a specification without `*`, and gives the arguments that are left.
+fn print_value<'p, P: Printf>(
+    alloc: Global,
+    out: &mut String,
+    spec: &ConversionSpecifier,
+    args: &'p [P],
+) -> Result<&'p [P]>
+    ensures ok { IfOk result (λ rest. Prints (take_text spec.now (map P.meaning args.entry.now)) (string_bytes out.old) (string_bytes out.new) (map P.meaning rest.now)) }
+    ensures err { IfErr result (λ e. (take_text spec.now (map P.meaning args.entry.now) ≡ Err e) ⊎ (e ≡ PrintfError.NoMemory)) }
+{
+    let (first, rest) = args.split_first().ok_or(PrintfError::NotEnoughArgs)?;
+    let text = first.format(alloc, spec)?;
+    out.push_str(text.as_str())
+        .map_err(|_| PrintfError::NoMemory)?;
+    Ok(rest)
+}
+
+/// Prints the arguments by the format: `sprintf!(alloc, fmt, a, b)`.
+///
+/// Each argument goes in by `Arg::from`, so a `String` as `&String`. An argument of a type of your own goes
+/// through [`vsprintf`].
+#[macro_export]
+macro_rules! sprintf {
+    ($alloc:expr, $fmt:expr $(,)?) => {{
+        let args: [$crate::Arg<'_>; 0] = [];
+        $crate::vsprintf($alloc, $fmt, &args)
+    }};
+    ($alloc:expr, $fmt:expr, $($arg:expr),+ $(,)?) => {
+        $crate::vsprintf($alloc, $fmt, &[$($crate::Arg::from($arg)),+])
+    };
+}
+
+#[cfg(test)]
+mod tests;

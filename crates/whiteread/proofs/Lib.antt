@@ -1,0 +1,6 @@
+pub mod WordLemmas
+pub mod FoundLemmas
+pub mod CallLemmas
+pub mod NextLemmas
+pub mod SplitLemmas
+pub mod WhiteLemmas

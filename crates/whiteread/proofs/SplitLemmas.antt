@@ -1,0 +1,22 @@
+-- A call of `next` over a split text.
+use Rattle.std.proofs.Common.{◌≡◌, ◌≤◌, ◌<◌, ℕ, List, [], ◌∷◌, length, drop, drop_of_length-le, max, Option, Some, None, Ok, Err, refl, sym, ◌∙◌, ap, subst, arith}
+use denote.Ref.{Bor}
+use Rattle.whiteread.specs.Words.{Words, words}
+use Rattle.whiteread.specs.Stream.{TakesFirst, NextCall, answer_of}
+use Rattle.whiteread.specs.Found.{NextWord, FindsWord}
+use Rattle.whiteread.specs.Split.{split_text, split_position, words_left, SplitStep, GivesWord, split_stream}
+use Rattle.whiteread.specs.declared.stream.split.SplitAsciiWhitespace.{SplitAsciiWhitespace}
+use Rattle.whiteread.proofs.NextLemmas.{told_call}
+
+no_words : (text : List ℕ) (from to : ℕ) → to ≡ max from (length text) → words (drop to text) ≡ []
+unfolding words
+no_words text from to is = ap words (drop_of_length-le text (omega (arith, is)))
+
+takes_first : (old : SplitAsciiWhitespace) (found : Option (List ℕ)) (new : SplitAsciiWhitespace) → SplitStep old (Ok found) new → TakesFirst (Some (words_left old)) (Ok found) (Some (words_left new))
+takes_first old None new by = (by.1.0, ap Some (ap (λ t. words (drop (split_position new) t)) by.0 ∙ no_words (split_text old) (split_position old) (split_position new) by.1.1))
+takes_first old (Some word) new by =
+    (words_left new, by.1.first ∙ ap (λ t. word ∷ words (drop (split_position new) t)) (sym by.0), refl)
+
+pub split_call : (old : SplitAsciiWhitespace) (found : Option (Bor (List ℕ))) (new : SplitAsciiWhitespace) → GivesWord old found new → NextCall split_stream old (answer_of (Ok found)) new
+split_call old None new by = told_call words_left SplitStep old None new by (takes_first old None new by)
+split_call old (Some word) new by = told_call words_left SplitStep old (Some word.now) new by (takes_first old (Some word.now) new by)

@@ -1,0 +1,14 @@
+pub mod Words
+pub mod Stream
+pub mod Reading
+pub mod Reads
+pub mod Tuples
+pub mod Adapted
+pub mod Found
+pub mod Split
+pub mod White
+pub mod Whole
+pub mod ErrorText
+pub mod Laws
+pub mod ReadingProofs
+pub mod WordProofs
