@@ -1,0 +1,35 @@
+-- Proofs of the laws.
+use Rattle.std.proofs.Common.{◌≡◌, ℕ, ◌+◌, true, false, List, [], ◌∷◌, Option, Some, None, Result, Ok, Err, refl, ap, IsSome}
+use Rattle.formatx.specs.Fault.{Fault, ◌>>=◌}
+use Rattle.formatx.specs.Values.{Meaning}
+use Rattle.formatx.specs.Text.{Scene, argument_text, precision_of, precision_takes, rendered, segment_takes, segment_text, value_at, whole}
+use Rattle.formatx.specs.Laws.{AllHaveValues, FinishesAgree, HasValue, with_strict}
+use Rattle.formatx.specs.declared.ast.Placeholder.{Placeholder}
+use Rattle.formatx.specs.declared.ast.Segment.{Segment}
+use Rattle.formatx.specs.declared.ast.Segment.TheVariants.{Literal, EscapedOpen, EscapedClose, Placeholder as Placed}
+
+bind_same : {A B : Type 0} (r : Result A Fault) (f g : A → Result B Fault) → ((a : A) → f a ≡ g a) → (r >>= f) ≡ (r >>= g)
+bind_same (Ok a) f g e = e a
+bind_same (Err fault) f g e = refl
+
+argument_same : (scene : Scene) (next : ℕ) (p : Placeholder) (precision : Option ℕ) (v : Option Meaning) → IsSome v → argument_text (with_strict scene true) next p precision v ≡ argument_text (with_strict scene false) next p precision v
+argument_same scene next p precision (Some m) h = refl
+argument_same scene next p precision None h = let no : ⊥ = cc in absurd no
+
+segment_same : (scene : Scene) (next : ℕ) (s : Segment) → HasValue scene next s → segment_text (with_strict scene true) next s ≡ segment_text (with_strict scene false) next s
+segment_same scene next (Placed p) h =
+    let own = next + precision_takes p.spec.precision in
+    bind_same (precision_of scene next p.spec.precision) _ _ (λ precision. argument_same scene own p precision (value_at scene own p.argument) h)
+segment_same scene next (Literal s) h = refl
+segment_same scene next EscapedOpen h = refl
+segment_same scene next EscapedClose h = refl
+
+rendered_same : (scene : Scene) (next : ℕ) (ss : List Segment) → AllHaveValues scene next ss → rendered (with_strict scene true) next ss ≡ rendered (with_strict scene false) next ss
+rendered_same scene next [] h = refl
+rendered_same scene next (s ∷ ss) h =
+    let first = segment_same scene next s h.0 in
+    let rest = rendered_same scene (next + segment_takes s) ss h.1 in
+    rw (first, rest) refl
+
+pub finishes_agree : FinishesAgree
+finishes_agree scene segments e h = rw e (ap whole (rendered_same scene 0 segments h))

@@ -1,0 +1,56 @@
+-- The longest run of bytes that pass a test, as `position` finds its end, and the numbers that texts write.
+use Rattle.std.proofs.Common.{◌≡◌, ℕ, suc, ◌+◌, ◌<◌, ◌≤◌, Bool, true, false, cond, not, ltb, List, [], ◌∷◌, length, drop, get_or, zero, add-zero, add-one, add-suc, Option, Some, None, Result, Ok, Err, refl, arith, ap, sym, unwrap_or}
+use Rattle.std.specs.List.{prefix_len}
+use Rattle.std.specs.Result.{result_ok}
+use Rattle.std.proofs.lemmas.Bool.Decides.{nat_tests}
+use Rattle.std.specs.Str.{IsUtf8, IsCharBoundary}
+use Rattle.std.specs.Str.Parse.{AllDigits, ParsesUnsigned, without_leading_plus}
+use Rattle.std.proofs.lemmas.Str.{IsCharBoundary-after_ascii}
+use Rattle.std.proofs.lemmas.List.{get_or-drop, length-drop}
+use Rattle.std.proofs.lemmas.List.Sums.{prefix_len_passes, prefix_len-le-length}
+use Rattle.formatx.specs.Words.{all_digits, usize_of}
+
+-- a run of what doesn't fail is a run of what passes
+prefix_len-not_not : (p : ℕ → Bool) (xs : List ℕ) → prefix_len (λ x. not (not (p x))) xs ≡ prefix_len p xs
+prefix_len-not_not p [] = refl
+prefix_len-not_not p (x ∷ xs) =
+    let ih = prefix_len-not_not p xs in
+    elim (p x) as (λ b. cond (not (not b)) (1 + prefix_len (λ y. not (not (p y))) xs) 0 ≡ cond b (1 + prefix_len p xs) 0) [ true ↦ ap (λ n. 1 + n) ih | false ↦ refl ]
+
+-- the first that fails stands where the run ends
+pub run_from_position : (p : ℕ → Bool) (xs : List ℕ) (r : Option ℕ) → r ≡ cond (ltb (prefix_len (λ x. not (not (p x))) xs) (length xs)) (Some (prefix_len (λ x. not (not (p x))) xs)) None → unwrap_or r (length xs) ≡ prefix_len p xs
+run_from_position p xs r e =
+    let same = prefix_len-not_not p xs in
+    let most = prefix_len-le-length p xs in
+    grind (arith, nat_tests)
+
+-- a run of ASCII ends between characters
+pub run_boundary : (p : ℕ → Bool) (bs : List ℕ) (i : ℕ) → ((x : ℕ) → p x ≡ true → x < 128) → IsUtf8 bs → i ≤ length bs → IsCharBoundary bs i → IsCharBoundary bs (i + prefix_len p (drop i bs))
+run_boundary p bs i ascii utf8 inside start = by_len (prefix_len p (drop i bs)) refl
+  where
+    by_len : (n : ℕ) → prefix_len p (drop i bs) ≡ n → IsCharBoundary bs (i + n)
+    by_len zero e = rw add-zero start
+    by_len (suc n) e =
+        let most = prefix_len-le-length p (drop i bs) in
+        let passes = prefix_len_passes p (drop i bs) n 0 (omega arith) in
+        let there : get_or bs (i + n) 0 < 128 = rw get_or-drop at (ascii _ passes) in
+        let long = length-drop i bs in
+        rw add-suc (rw (sym (add-one (i + n))) (IsCharBoundary-after_ascii bs (i + n) utf8 (omega arith) there))
+
+-- the tests of a text of digits
+all_digits-true : (ds : List ℕ) → AllDigits 10 ds → all_digits ds ≡ true
+all_digits-true [] h = refl
+all_digits-true (d ∷ ds) h = let ih = all_digits-true ds h.1 in grind (arith, nat_tests)
+
+AllDigits-from_test : (ds : List ℕ) → all_digits ds ≡ true → AllDigits 10 ds
+AllDigits-from_test [] h = tt
+AllDigits-from_test (d ∷ ds) h = let ih = AllDigits-from_test ds in grind (arith, nat_tests)
+
+-- what `parse` reads as a `usize`
+pub usize_of-parsed : {E : Type 0} (bs : List ℕ) (r : Result ℕ E) → ParsesUnsigned 64 10 bs r → result_ok r ≡ usize_of bs
+usize_of-parsed bs (Ok n) h =
+    let digits = all_digits-true (without_leading_plus bs) h.0.0.1 in
+    grind (arith, nat_tests)
+usize_of-parsed bs (Err e) h =
+    let digits = AllDigits-from_test (without_leading_plus bs) in
+    grind (arith, nat_tests)

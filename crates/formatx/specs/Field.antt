@@ -1,0 +1,101 @@
+-- The text of one value under a specification whose width and precision are numbers.
+use Rattle.std.specs.Prelude.{ℕ, ◌+◌, ◌-◌, ◌/◌, Bool, true, false, ◌||◌, List, [], ◌++◌, length, take, drop, slice_index, codes, chars, encode_utf8_all, replicate, ◌==◌, if◌then◌else◌, is_some, Option, Some, None, unwrap_or}
+use Rattle.std.specs.Str.{byte}
+use Rattle.formatx.specs.Values.{Meaning}
+use Rattle.formatx.specs.declared.format.Padding.{Padding}
+use Rattle.formatx.specs.declared.ast.FormatSpec.{FormatSpec}
+use Rattle.formatx.specs.declared.ast.Align.{Align}
+use Rattle.formatx.specs.declared.ast.Align.TheVariants.{Left, Center, Right}
+use Rattle.formatx.specs.declared.ast.Sign.{Sign}
+use Rattle.formatx.specs.declared.ast.Sign.TheVariants.{Plus, Minus}
+use Rattle.formatx.specs.declared.ast.FormatType.{FormatType}
+use Rattle.formatx.specs.declared.ast.FormatType.TheVariants.{Debug, DebugLowerHex, DebugUpperHex}
+use Rattle.formatx.specs.declared.value.Shape.{Shape}
+use Rattle.formatx.specs.declared.value.Shape.TheVariants.{Integer, Text, Raw}
+use Rattle.formatx.specs.declared.value.DebugStyle.TheVariants.{Plain, LowerHex, UpperHex}
+
+-- a field's body: a sign, and what follows it
+pub record Body : Type 0 where
+  pub sign : List ℕ
+  pub rest : List ℕ
+
+-- the sign before a number that isn't negative
+abbrev pub sign_text : Option Sign → List ℕ
+sign_text (Some Plus) = codes "+"
+sign_text (Some Minus) = []
+sign_text None = []
+
+-- a number's sign and its digits
+abbrev pub number_body : Option Sign → List ℕ → Body
+number_body sign text =
+    if slice_index text 0 == byte "-" then record { sign = take 1 text; rest = drop 1 text } else record { sign = sign_text sign; rest = text }
+
+-- the first characters of a text, as many as the precision allows
+abbrev pub cut : Option ℕ → List ℕ → List ℕ
+cut (Some n) text = encode_utf8_all (take n (chars text))
+cut None text = text
+
+-- only a number has a sign, and only a text is cut to the precision
+abbrev pub body_of : Shape → Option Sign → Option ℕ → List ℕ → Body
+body_of Integer sign precision text = number_body sign text
+body_of Text sign precision text = record { sign = []; rest = cut precision text }
+body_of Raw sign precision text = record { sign = []; rest = text }
+
+-- how many characters a body lacks to the width
+abbrev pub gap_of : Option ℕ → Body → ℕ
+gap_of width body = unwrap_or width 0 - (length body.sign + length (chars body.rest))
+
+-- a padding says how many fills stand on the left, how many zeros after the sign, and how many fills on the right.
+-- The fills go by the alignment, Left where none is given; Center has the smaller half on the left
+abbrev pub aligned : Option Align → ℕ → Padding
+aligned (Some Right) gap = record { left = gap; zeros = 0; right = 0 }
+aligned (Some Center) gap = record { left = gap / 2; zeros = 0; right = gap - gap / 2 }
+aligned (Some Left) gap = record { left = 0; zeros = 0; right = gap }
+aligned None gap = record { left = 0; zeros = 0; right = gap }
+
+-- without fill and alignment a number is padded on the left, a text on the right, and a raw text not at all
+abbrev pub by_shape : Shape → Bool → ℕ → Padding
+by_shape Integer true gap = record { left = 0; zeros = gap; right = 0 }
+by_shape Integer false gap = record { left = gap; zeros = 0; right = 0 }
+by_shape Text zero gap = record { left = 0; zeros = 0; right = gap }
+by_shape Raw zero gap = record { left = 0; zeros = 0; right = 0 }
+
+abbrev pub is_aligned : FormatSpec → Bool
+is_aligned spec = is_some spec.fill || is_some spec.align
+
+abbrev pub padding_of : FormatSpec → Shape → ℕ → Padding
+padding_of spec shape gap = if is_aligned spec then aligned spec.align gap else by_shape shape spec.zero_pad gap
+
+-- n copies of a character
+abbrev pub copies : ℕ → ℕ → List ℕ
+copies n c = encode_utf8_all (replicate n c)
+
+-- a body with its padding
+abbrev pub laid_out : ℕ → Padding → Body → List ℕ
+laid_out fill padding body =
+    copies padding.left fill ++ body.sign ++ copies padding.zeros (byte "0") ++ body.rest ++ copies padding.right fill
+
+-- a body, padded to the width
+abbrev pub padded : FormatSpec → Shape → Option ℕ → Body → List ℕ
+padded spec shape width body =
+    laid_out (unwrap_or spec.fill (byte " ")) (padding_of spec shape (gap_of width body)) body
+
+-- the text and the shape of a value under a type; in hexadecimal the text is raw
+abbrev pub text_by : FormatType → Meaning → List ℕ
+text_by Debug m = m.debug Plain
+text_by DebugLowerHex m = m.debug LowerHex
+text_by DebugUpperHex m = m.debug UpperHex
+text_by _ m = m.display
+
+abbrev pub shape_by : FormatType → Meaning → Shape
+shape_by Debug m = m.debug_shape
+shape_by DebugLowerHex m = Raw
+shape_by DebugUpperHex m = Raw
+shape_by _ m = m.display_shape
+
+-- the text of a field: sign, precision and width by the shape
+abbrev pub shaped : FormatSpec → Shape → Option ℕ → Option ℕ → List ℕ → List ℕ
+shaped spec shape width precision text = padded spec shape width (body_of shape spec.sign precision text)
+
+abbrev pub field_text : FormatSpec → Meaning → Option ℕ → Option ℕ → List ℕ
+field_text spec m width precision = shaped spec (shape_by spec.format_type m) width precision (text_by spec.format_type m)

@@ -1,0 +1,38 @@
+-- Laws of templates, each carried by a function of the crate with an empty body.
+use Rattle.std.specs.Prelude.{◌≡◌, ◌≤◌, ◌+◌, ℕ, Bool, true, false, List, [], ◌∷◌, length, chars, IsSome, IfSome, IsUtf8, Option, Some, Ok, ⊤}
+use Rattle.std.specs.Char.{IsScalar}
+use Rattle.formatx.specs.Segments.{segments_of}
+use Rattle.formatx.specs.Values.{Meaning}
+use Rattle.formatx.specs.Field.{field_text}
+use Rattle.formatx.specs.Text.{Scene, formatted, precision_takes, segment_takes, value_at}
+use Rattle.formatx.specs.declared.ast.FormatSpec.{FormatSpec}
+use Rattle.formatx.specs.declared.ast.FormatType.TheVariants.{Display}
+use Rattle.formatx.specs.declared.ast.Segment.{Segment}
+use Rattle.formatx.specs.declared.ast.Segment.TheVariants.{Literal, EscapedOpen, EscapedClose, Placeholder as Placed}
+use Rattle.formatx.specs.declared.value.Shape.TheVariants.{Raw}
+
+-- the value of the segment's argument is there
+abbrev pub HasValue : Scene → ℕ → Segment → Type 0
+HasValue scene next (Placed p) = IsSome (value_at scene (next + precision_takes p.spec.precision) p.argument)
+HasValue scene next (Literal s) = ⊤
+HasValue scene next EscapedOpen = ⊤
+HasValue scene next EscapedClose = ⊤
+
+-- no placeholder lacks its value
+abbrev pub AllHaveValues : Scene → ℕ → List Segment → Type 0
+AllHaveValues scene next [] = ⊤
+AllHaveValues scene next (s ∷ ss) = HasValue scene next s × AllHaveValues scene (next + segment_takes s) ss
+
+-- the same scene, strict or lenient
+abbrev pub with_strict : Scene → Bool → Scene
+with_strict scene strict = record { source = scene.source; values = scene.values; names = scene.names; strict = strict }
+
+-- strict and lenient printing agree where no placeholder lacks its value
+abbrev pub FinishesAgree : Type 0
+FinishesAgree = (scene : Scene) (segments : List Segment) → segments_of scene.source ≡ Ok segments → AllHaveValues scene 0 segments
+    → formatted (with_strict scene true) ≡ formatted (with_strict scene false)
+
+-- a printed field whose shape isn't raw has at least its width in characters
+abbrev pub FieldsAreWide : Type 0
+FieldsAreWide = (spec : FormatSpec) (m : Meaning) (width : ℕ) (precision : Option ℕ) → spec.format_type ≡ Display → IfSome spec.fill IsScalar
+    → IsUtf8 m.display → ¬ (m.display_shape ≡ Raw) → width ≤ length (chars (field_text spec m (Some width) precision))

@@ -1,0 +1,10 @@
+pub mod Fault
+pub mod Words
+pub mod Options
+pub mod Segments
+pub mod Spans
+pub mod Values
+pub mod Field
+pub mod Text
+pub mod Templates
+pub mod Laws

@@ -1,0 +1,51 @@
+-- Templates and renderers as callers see them.
+use Rattle.std.specs.Prelude.{◌≡◌, map, ℕ, List, [], ◌∷◌, ◌++◌, Bool, Result, Ok, Err}
+use Rattle.formatx.specs.Fault.{Fault}
+use Rattle.formatx.specs.Segments.{segments_of}
+use Rattle.formatx.specs.Spans.{Fits}
+use Rattle.formatx.specs.Values.{Meaning}
+use Rattle.formatx.specs.Text.{NamedPosition, Scene, covered}
+use Rattle.formatx.specs.declared.ast.Argument.{Argument}
+use Rattle.formatx.specs.declared.ast.Argument.TheVariants.{Implicit, Positional, Named}
+use Rattle.formatx.specs.declared.ast.Segment.{Segment}
+use Rattle.formatx.specs.declared.ast.Segment.TheVariants.{Literal, EscapedOpen, EscapedClose, Placeholder as Placed}
+
+-- a renderer: the source of its template, its values in order, and its names
+pub record Filling (V : Type 0) : Type 0 where
+  pub source : List ℕ
+  pub values : List V
+  pub names : List NamedPosition
+
+-- what a renderer prints over, whose values mean what `meaning` says
+abbrev pub filled : {V : Type 0} → (V → Meaning) → Filling V → Bool → Scene
+filled meaning r strict = record { source = r.source; values = map meaning r.values; names = r.names; strict = strict }
+
+-- the segments were read from the source
+pub record IsParsed (source : List ℕ) (segments : List Segment) : Type 0 where
+  pub read : segments_of source ≡ Ok segments
+  pub fits : Fits source segments
+
+-- the name of an argument, if it has one
+abbrev pub argument_names : List ℕ → Argument → List (List ℕ)
+argument_names source Implicit = []
+argument_names source (Positional i) = []
+argument_names source (Named s) = covered source s ∷ []
+
+abbrev pub segment_names : List ℕ → Segment → List (List ℕ)
+segment_names source (Placed p) = argument_names source p.argument
+segment_names source (Literal s) = []
+segment_names source EscapedOpen = []
+segment_names source EscapedClose = []
+
+-- the names of the placeholders in order, repeats kept; names of counts aren't among them
+abbrev pub names_in : List ℕ → List Segment → List (List ℕ)
+names_in source [] = []
+names_in source (s ∷ ss) = segment_names source s ++ names_in source ss
+
+-- the names in a template
+abbrev pub names_or_none : List ℕ → Result (List Segment) Fault → List (List ℕ)
+names_or_none source (Ok segments) = names_in source segments
+names_or_none source (Err fault) = []
+
+abbrev pub names_of : List ℕ → List (List ℕ)
+names_of source = names_or_none source (segments_of source)

@@ -1,0 +1,66 @@
+-- What the carried values mean: their texts, and the shapes that say how a text is padded.
+use Rattle.std.specs.Prelude.{◌≡◌, ℕ, Bool, true, false, ◌||◌, List, [], ◌∷◌, ◌++◌, codes, chars, encode_utf8, ◌==◌, nat_lt, flat_map, ℤ, pos, negsuc, suc, if◌then◌else◌}
+use Rattle.std.specs.Str.{byte}
+use Rattle.numerals.specs.Numeral.{numeral}
+use Rattle.formatx.specs.declared.value.Shape.{Shape}
+use Rattle.formatx.specs.declared.value.Shape.TheVariants.{Integer, Text, Raw}
+use Rattle.formatx.specs.declared.value.DebugStyle.{DebugStyle}
+use Rattle.formatx.specs.declared.value.DebugStyle.TheVariants.{Plain, LowerHex, UpperHex}
+
+-- a value as templates see it: a text and a shape for `{}`, and the same for each debug style
+pub record Meaning : Type 0 where
+  pub display : List ℕ
+  pub debug : DebugStyle → List ℕ
+  pub display_shape : Shape
+  pub debug_shape : Shape
+
+-- a number in decimal, with `-` where it is negative
+abbrev pub decimal_of : ℤ → List ℕ
+decimal_of (pos n) = numeral 10 false n
+decimal_of (negsuc n) = byte "-" ∷ numeral 10 false (suc n)
+
+-- a number in decimal, or its two's complement in hexadecimal digits
+abbrev pub integer_debug : ℤ → ℕ → DebugStyle → List ℕ
+integer_debug n bits Plain = decimal_of n
+integer_debug n bits LowerHex = numeral 16 false bits
+integer_debug n bits UpperHex = numeral 16 true bits
+
+-- an integer and its two's complement
+abbrev pub integer_meaning : ℤ → ℕ → Meaning
+integer_meaning n bits = record { display = decimal_of n; debug = integer_debug n bits; display_shape = Integer; debug_shape = Integer }
+
+abbrev pub bool_text : Bool → List ℕ
+bool_text true = codes "true"
+bool_text false = codes "false"
+
+abbrev pub bool_meaning : Bool → Meaning
+bool_meaning b = record { display = bool_text b; debug = λ _. bool_text b; display_shape = Text; debug_shape = Text }
+
+-- a character between quotes: the quote and the backslash after a backslash, control characters by a letter or by
+-- their hexadecimal digits, and every other character as it is
+abbrev pub escaped : ℕ → ℕ → List ℕ
+escaped quote c =
+    if c == quote || c == byte "\\" then byte "\\" ∷ c ∷ [] else
+    (if c == 0 then codes "\\0" else
+    (if c == 9 then codes "\\t" else
+    (if c == 13 then codes "\\r" else
+    (if c == 10 then codes "\\n" else
+    (if nat_lt c 32 || c == 127 then codes "\\u{" ++ numeral 16 false c ++ codes "}" else encode_utf8 c)))))
+
+-- characters between quotes
+abbrev pub quoted : ℕ → List ℕ → List ℕ
+quoted quote cs = quote ∷ flat_map (escaped quote) cs ++ quote ∷ []
+
+-- a text, whose characters are quoted by the byte given
+abbrev pub text_meaning : ℕ → List ℕ → Meaning
+text_meaning quote text = record { display = text; debug = λ _. quoted quote (chars text); display_shape = Text; debug_shape = Raw }
+
+abbrev pub str_meaning : List ℕ → Meaning
+str_meaning text = text_meaning (byte "\"") text
+
+abbrev pub char_meaning : ℕ → Meaning
+char_meaning c = text_meaning (byte "'") (encode_utf8 c)
+
+-- the new text begins with the old one
+abbrev pub Extends : List ℕ → List ℕ → Type 0
+Extends old new = (more : List ℕ) × (new ≡ old ++ more)

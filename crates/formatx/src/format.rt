@@ -1,0 +1,687 @@
+// Prints a parsed template over values.
+ghost use Rattle.std.specs.Prelude.{◌≡◌, ◌++◌, ◌+◌, ◌*◌, ◌<◌, ◌≤◌, ◌↔◌, IfErr, IfOk, IfSome, MatchOption, OnErr, OnOk, ⊤, IsFalse, ◌^◌, false, Some, None, length, map, chars, string_bytes, string_len, option_map, option_copied, IsCharBoundary};
+ghost use Rattle.std.specs.Char.{len_utf8};
+ghost use Rattle.std.specs.String.{string_capacity};
+ghost use Rattle.numerals.specs.Numeral.{numeral};
+ghost use Rattle.formatx.specs.Fault.{Answers, Tells};
+ghost use Rattle.formatx.specs.Spans.{ArgumentFits, CountFits, Fits, PlaceholderFits, PrecisionFits, SegmentFits, SpanFits};
+ghost use Rattle.formatx.specs.Field.{aligned, body_of, by_shape, copies, cut, field_text, gap_of, is_aligned, laid_out, number_body, padding_of, shape_by, shaped, sign_text, text_by};
+ghost use Rattle.formatx.specs.Text.{Appends, Holds, argument_name, argument_takes, count_at_position, count_of, covered, named_position, number_of, placeholder_text, position_at, position_of, precision_of, precision_takes, present_text, rendered, scene_of, scene_over, segment_takes, segment_text, star_precision, argument_text, supported, value_at, whole, width_of};
+
+use crate::ast::{
+    Align, Argument, Count, CountParam, FormatSpec, FormatString, FormatType, Placeholder,
+    Precision, Segment, Sign, Span,
+};
+use crate::error::Error;
+use crate::parser::{has, quote, usize_of};
+use crate::value::{DebugStyle, FormatValue, Name, Shape};
+use numerals::{Radix, push_digits};
+use std::alloc::Global;
+
+// What a template is printed over.
+#[derive(Drop)]
+struct Input<'a, V> {
+    source: &'a str,
+    args: &'a [V],
+    named: &'a [Name],
+    strict: bool,
+}
+
+// The span of a fault that stands at no place of the source.
+const NOWHERE: Span = Span { start: 0, end: 0 };
+
+// The position of the first equal name.
+fn position_of(name: &str, named: &[Name]) -> Option<usize>
+    ensures { result ≡ position_of name.now (map named_position named.now) }
+{
+    'names: for entry in named {
+        if entry.name.as_str() == name {
+            return Some(entry.index);
+        }
+    }
+    None
+}
+
+// The number that a value's text writes.
+fn number_of<V: FormatValue>(alloc: Global, words: &str, value: &V) -> Result<usize, Error>
+    ensures { Answers result (number_of words.now (V.meaning value.now)) }
+{
+    let mut text = String::new(alloc);
+    value.display(&mut text)?;
+    if let Some(number) = usize_of(text.as_str()) {
+        return Ok(number);
+    }
+    let mut message = quote(alloc, words, text.as_str())?;
+    message.push_str(" is not a valid usize")?;
+    Err(Error::Parse {
+        span: NOWHERE,
+        message,
+    })
+}
+
+// A number between words.
+fn numbered(alloc: Global, words: &str, number: usize, end: &str) -> Result<String, Error>
+    ensures ok { IfOk result (λ message. string_bytes message ≡ words.now ++ numeral 10 false number ++ end.now) }
+    ensures memory { IfErr result (λ e. e ≡ Error.NoMemory) }
+{
+    let mut message = String::from_str(alloc, words)?;
+    push_digits(&mut message, number as u128, Radix::Ten, false)?;
+    message.push_str(end)?;
+    Ok(message)
+}
+
+// The value at a position, as a number.
+fn count_at_position<V: FormatValue>(
+    alloc: Global,
+    input: &Input<'_, V>,
+    position: usize,
+) -> Result<usize, Error>
+    ensures { Answers result (count_at_position (scene_of V.meaning input.now) position) }
+{
+    match input.args.get(position) {
+        Some(value) => number_of(alloc, "count argument ", value),
+        None => {
+            let message = numbered(alloc, "count argument index ", position, " out of range")?;
+            Err(Error::Parse {
+                span: NOWHERE,
+                message,
+            })
+        }
+    }
+}
+
+// The part of the source that a span covers.
+fn covered<'a>(source: &'a str, span: &Span) -> &'a str
+    requires { SpanFits source.now span.now }
+    ensures { result.now ≡ covered source.now span.now }
+{
+    &source[span.start..span.end]
+}
+
+fn count_of<V: FormatValue>(
+    alloc: Global,
+    input: &Input<'_, V>,
+    count: &Count,
+) -> Result<usize, Error>
+    requires { CountFits input.now.source.now count.now }
+    ensures { Answers result (count_of (scene_of V.meaning input.now) count.now) }
+{
+    match count {
+        Count::Literal(number) => Ok(*number),
+        Count::Param(CountParam::Positional(position)) => count_at_position(
+            alloc, input, *position,
+        ),
+        Count::Param(CountParam::Named(span)) => {
+            let name = covered(input.source, span);
+            match position_of(name, input.named) {
+                Some(position) => count_at_position(alloc, input, position),
+                None => {
+                    let message = quote(alloc, "missing count argument: ", name)?;
+                    Err(Error::Parse {
+                        span: *span,
+                        message,
+                    })
+                }
+            }
+        }
+    }
+}
+
+fn width_of<V: FormatValue>(
+    alloc: Global,
+    input: &Input<'_, V>,
+    width: &Option<Count>,
+) -> Result<Option<usize>, Error>
+    requires { MatchOption width.now ⊤ (CountFits input.now.source.now) }
+    ensures { Answers result (width_of (scene_of V.meaning input.now) width.now) }
+{
+    match width {
+        Some(count) => Ok(Some(count_of(alloc, input, count)?)),
+        None => Ok(None),
+    }
+}
+
+// The precision that the next implicit position holds.
+fn star_precision<V: FormatValue>(
+    alloc: Global,
+    input: &Input<'_, V>,
+    next: usize,
+) -> Result<usize, Error>
+    ensures { Answers result (star_precision (scene_of V.meaning input.now) next) }
+{
+    match input.args.get(next) {
+        Some(value) => number_of(alloc, "`.*` precision argument ", value),
+        None => {
+            let message = String::from_str(alloc, "not enough arguments for `.*` precision")?;
+            Err(Error::Parse {
+                span: NOWHERE,
+                message,
+            })
+        }
+    }
+}
+
+fn precision_of<V: FormatValue>(
+    alloc: Global,
+    input: &Input<'_, V>,
+    next: usize,
+    precision: &Option<Precision>,
+) -> Result<Option<usize>, Error>
+    requires { MatchOption precision.now ⊤ (PrecisionFits input.now.source.now) }
+    ensures { Answers result (precision_of (scene_of V.meaning input.now) next precision.now) }
+{
+    match precision {
+        Some(Precision::Count(count)) => Ok(Some(count_of(alloc, input, count)?)),
+        Some(Precision::Star) => Ok(Some(star_precision(alloc, input, next)?)),
+        None => Ok(None),
+    }
+}
+
+// The position that an argument stands for.
+fn position_at<V: FormatValue>(
+    input: &Input<'_, V>,
+    next: usize,
+    argument: &Argument,
+) -> Option<usize>
+    requires { ArgumentFits input.now.source.now argument.now }
+    ensures { result ≡ position_at (scene_of V.meaning input.now) next argument.now }
+{
+    match argument {
+        Argument::Implicit => Some(next),
+        Argument::Positional(position) => Some(*position),
+        Argument::Named(span) => position_of(covered(input.source, span), input.named),
+    }
+}
+
+// The argument's value, if it is there.
+fn value_at<'a, V: FormatValue>(
+    input: &Input<'a, V>,
+    next: usize,
+    argument: &Argument,
+) -> Option<&'a V>
+    requires { ArgumentFits input.now.source.now argument.now }
+    ensures { option_map V.meaning (option_copied result) ≡ value_at (scene_of V.meaning input.now) next argument.now }
+{
+    match position_at(input, next, argument) {
+        Some(position) => input.args.get(position),
+        None => None,
+    }
+}
+
+// How a missing argument is named.
+fn argument_name(
+    alloc: Global,
+    source: &str,
+    next: usize,
+    argument: &Argument,
+) -> Result<String, Error>
+    requires { ArgumentFits source.now argument.now }
+    ensures ok { IfOk result (λ name. string_bytes name ≡ argument_name source.now next argument.now) }
+    ensures memory { IfErr result (λ e. e ≡ Error.NoMemory) }
+{
+    match argument {
+        Argument::Implicit => numbered(alloc, "", next, ""),
+        Argument::Positional(position) => numbered(alloc, "", *position, ""),
+        Argument::Named(span) => Ok(String::from_str(alloc, covered(source, span))?),
+    }
+}
+
+// Only the four types of texts are carried.
+fn supported(format_type: FormatType, span: Span) -> Result<FormatType, Error>
+    ensures { Answers result (supported format_type span) }
+{
+    match format_type {
+        FormatType::Display
+        | FormatType::Debug
+        | FormatType::DebugLowerHex
+        | FormatType::DebugUpperHex => Ok(format_type),
+        _ => Err(Error::UnsupportedTrait { format_type, span }),
+    }
+}
+
+// A field's sign, and what follows it.
+#[derive(Clone, Copy)]
+struct Body<'a> {
+    sign: &'a str,
+    rest: &'a str,
+}
+
+fn sign_text(sign: Option<Sign>) -> &'static str
+    ensures { result.now ≡ sign_text sign }
+{
+    match sign {
+        Some(Sign::Plus) => "+",
+        Some(Sign::Minus) | None => "",
+    }
+}
+
+fn number_body(sign: Option<Sign>, text: &str) -> Body<'_>
+    ensures sign { result.sign.now ≡ (number_body sign text.now).sign }
+    ensures rest { result.rest.now ≡ (number_body sign text.now).rest }
+{
+    if has(text, 0, b'-') {
+        Body {
+            sign: &text[..1],
+            rest: &text[1..],
+        }
+    } else {
+        Body {
+            sign: sign_text(sign),
+            rest: text,
+        }
+    }
+}
+
+// The first characters of a text.
+fn front(text: &str, count: usize) -> &str
+    ensures { result.now ≡ cut (Some count) text.now }
+{
+    let mut rest = text.chars();
+    'characters: for i in 0..count {
+        let _ = i;
+        let Some(_character) = rest.next() else {
+            return text;
+        };
+    }
+    &text[..text.len() - rest.as_str().len()]
+}
+
+fn cut(precision: Option<usize>, text: &str) -> &str
+    ensures { result.now ≡ cut precision text.now }
+{
+    match precision {
+        Some(count) => front(text, count),
+        None => text,
+    }
+}
+
+fn body_of<'a>(
+    shape: &Shape,
+    sign: Option<Sign>,
+    precision: Option<usize>,
+    text: &'a str,
+) -> Body<'a>
+    ensures sign { result.sign.now ≡ (body_of shape.now sign precision text.now).sign }
+    ensures rest { result.rest.now ≡ (body_of shape.now sign precision text.now).rest }
+{
+    match shape {
+        Shape::Integer => number_body(sign, text),
+        Shape::Text => Body {
+            sign: "",
+            rest: cut(precision, text),
+        },
+        Shape::Raw => Body {
+            sign: "",
+            rest: text,
+        },
+    }
+}
+
+// How many fills stand on the left, how many zeros after the sign, and how many fills on the right.
+#[derive(Clone, Copy)]
+struct Padding {
+    left: usize,
+    zeros: usize,
+    right: usize,
+}
+
+fn aligned(align: Option<Align>, gap: usize) -> Padding
+    ensures { result ≡ aligned align gap }
+{
+    match align {
+        Some(Align::Right) => Padding {
+            left: gap,
+            zeros: 0,
+            right: 0,
+        },
+        Some(Align::Center) => Padding {
+            left: gap / 2,
+            zeros: 0,
+            right: gap - gap / 2,
+        },
+        Some(Align::Left) | None => Padding {
+            left: 0,
+            zeros: 0,
+            right: gap,
+        },
+    }
+}
+
+fn by_shape(shape: &Shape, zero_pad: bool, gap: usize) -> Padding
+    ensures { result ≡ by_shape shape.now zero_pad gap }
+{
+    match shape {
+        Shape::Integer => {
+            if zero_pad {
+                Padding {
+                    left: 0,
+                    zeros: gap,
+                    right: 0,
+                }
+            } else {
+                Padding {
+                    left: gap,
+                    zeros: 0,
+                    right: 0,
+                }
+            }
+        }
+        Shape::Text => Padding {
+            left: 0,
+            zeros: 0,
+            right: gap,
+        },
+        Shape::Raw => Padding {
+            left: 0,
+            zeros: 0,
+            right: 0,
+        },
+    }
+}
+
+fn padding_of(spec: &FormatSpec, shape: &Shape, gap: usize) -> Padding
+    ensures { result ≡ padding_of spec.now shape.now gap }
+{
+    if spec.fill.is_some() || spec.align.is_some() {
+        aligned(spec.align, gap)
+    } else {
+        by_shape(shape, spec.zero_pad, gap)
+    }
+}
+
+fn char_count(text: &str) -> usize
+    ensures value { result ≡ length (chars text.now) }
+    ensures bound { result ≤ length text.now }
+{
+    text.chars().count()
+}
+
+// How many characters a body lacks to the width.
+fn gap_of(width: Option<usize>, body: &Body<'_>) -> usize
+    ensures { result ≡ gap_of width (record { sign = body.now.sign.now; rest = body.now.rest.now }) }
+{
+    let count = body.sign.len() + char_count(body.rest);
+    width.unwrap_or(0).saturating_sub(count)
+}
+
+// Appends a character many times, for which there is room.
+fn push_copies(output: &mut String, count: usize, c: char)
+    requires { string_len output.old + count * len_utf8 c ≤ string_capacity output.old }
+    ensures text { string_bytes output.new ≡ string_bytes output.old ++ copies count c }
+    ensures len { string_len output.new ≡ string_len output.old + count * len_utf8 c }
+    ensures capacity { string_capacity output.old ≤ string_capacity output.new }
+{
+    'copies: for i in 0..count {
+        let _ = i;
+        output.push(c).unwrap();
+    }
+}
+
+// Appends a text, for which there is room.
+fn push_all(output: &mut String, text: &str)
+    requires { string_len output.old + length text.now ≤ string_capacity output.old }
+    ensures text { string_bytes output.new ≡ string_bytes output.old ++ text.now }
+    ensures len { string_len output.new ≡ string_len output.old + length text.now }
+    ensures capacity { string_capacity output.old ≤ string_capacity output.new }
+{
+    output.push_str(text).unwrap();
+}
+
+// How many bytes a body has with its padding, where that many can be counted.
+fn laid_out_len(fill: char, padding: Padding, body: &Body<'_>) -> Option<usize>
+    ensures { IfSome result (λ n. n ≡ padding.left * len_utf8 fill + length body.now.sign.now + padding.zeros + length body.now.rest.now + padding.right * len_utf8 fill) }
+{
+    let left = padding.left.checked_mul(fill.len_utf8())?;
+    let right = padding.right.checked_mul(fill.len_utf8())?;
+    left.checked_add(body.sign.len())?
+        .checked_add(padding.zeros)?
+        .checked_add(body.rest.len())?
+        .checked_add(right)
+}
+
+// Appends a body with its padding. The room is taken first, so nothing is written without memory.
+fn push_laid_out(
+    output: &mut String,
+    fill: char,
+    padding: Padding,
+    body: &Body<'_>,
+) -> Result<(), Error>
+    ensures ok { OnOk result (string_bytes output.new ≡ string_bytes output.old ++ laid_out fill padding (record { sign = body.now.sign.now; rest = body.now.rest.now })) }
+    ensures err { OnErr result (string_bytes output.new ≡ string_bytes output.old) }
+    ensures memory { IfErr result (λ e. e ≡ Error.NoMemory) }
+{
+    let Some(len) = laid_out_len(fill, padding, body) else {
+        return Err(Error::NoMemory);
+    };
+    output.reserve(len)?;
+    push_copies(output, padding.left, fill);
+    push_all(output, body.sign);
+    push_copies(output, padding.zeros, '0');
+    push_all(output, body.rest);
+    push_copies(output, padding.right, fill);
+    Ok(())
+}
+
+// Appends a text with its sign and its padding, cut to the precision.
+fn push_shaped(
+    output: &mut String,
+    spec: &FormatSpec,
+    shape: &Shape,
+    width: Option<usize>,
+    precision: Option<usize>,
+    text: &str,
+) -> Result<(), Error>
+    ensures ok { OnOk result (string_bytes output.new ≡ string_bytes output.old ++ shaped spec.now shape.now width precision text.now) }
+    ensures err { OnErr result (string_bytes output.new ≡ string_bytes output.old) }
+    ensures memory { IfErr result (λ e. e ≡ Error.NoMemory) }
+{
+    let body = body_of(shape, spec.sign, precision, text);
+    let gap = gap_of(width, &body);
+    let padding = padding_of(spec, shape, gap);
+    push_laid_out(output, spec.fill.unwrap_or(' '), padding, &body)
+}
+
+// Appends the text of a value under a type, and answers its shape.
+fn push_text<V: FormatValue>(
+    out: &mut String,
+    value: &V,
+    format_type: FormatType,
+) -> Result<Shape, Error>
+    ensures ok { OnOk result (string_bytes out.new ≡ string_bytes out.old ++ text_by format_type (V.meaning value.now)) }
+    ensures shape { IfOk result (λ shape. shape ≡ shape_by format_type (V.meaning value.now)) }
+    ensures memory { IfErr result (λ e. e ≡ Error.NoMemory) }
+{
+    match format_type {
+        FormatType::Debug => {
+            value.debug(DebugStyle::Plain, out)?;
+            Ok(value.debug_shape())
+        }
+        FormatType::DebugLowerHex => {
+            value.debug(DebugStyle::LowerHex, out)?;
+            Ok(Shape::Raw)
+        }
+        FormatType::DebugUpperHex => {
+            value.debug(DebugStyle::UpperHex, out)?;
+            Ok(Shape::Raw)
+        }
+        _ => {
+            value.display(out)?;
+            Ok(value.display_shape())
+        }
+    }
+}
+
+// Appends a field; `scratch` is room for the value's own text.
+fn push_field<V: FormatValue>(
+    output: &mut String,
+    scratch: &mut String,
+    spec: &FormatSpec,
+    value: &V,
+    width: Option<usize>,
+    precision: Option<usize>,
+) -> Result<(), Error>
+    ensures ok { OnOk result (string_bytes output.new ≡ string_bytes output.old ++ field_text spec.now (V.meaning value.now) width precision) }
+    ensures err { OnErr result (string_bytes output.new ≡ string_bytes output.old) }
+    ensures memory { IfErr result (λ e. e ≡ Error.NoMemory) }
+{
+    scratch.clear();
+    let shape = push_text(scratch, value, spec.format_type)?;
+    push_shaped(output, spec, &shape, width, precision, scratch.as_str())
+}
+
+// Appends a placeholder whose value is there.
+fn push_present<V: FormatValue>(
+    alloc: Global,
+    output: &mut String,
+    scratch: &mut String,
+    input: &Input<'_, V>,
+    placeholder: &Placeholder,
+    precision: Option<usize>,
+    value: &V,
+) -> Result<(), Error>
+    requires { PlaceholderFits input.now.source.now placeholder.now }
+    ensures ok { OnOk result (Appends (present_text (scene_of V.meaning input.now) placeholder.now precision (V.meaning value.now)) (string_bytes output.old) (string_bytes output.new)) }
+    ensures err { IfErr result (λ e. Tells e (present_text (scene_of V.meaning input.now) placeholder.now precision (V.meaning value.now))) }
+    ensures unchanged { OnErr result (string_bytes output.new ≡ string_bytes output.old) }
+{
+    let width = width_of(alloc, input, &placeholder.spec.width)?;
+    let _format_type = supported(placeholder.spec.format_type, placeholder.span)?;
+    push_field(output, scratch, &placeholder.spec, value, width, precision)
+}
+
+fn precision_takes(precision: &Option<Precision>) -> usize
+    ensures takes { result ≡ precision_takes precision.now }
+    ensures small { result ≤ 1 }
+{
+    match precision {
+        Some(Precision::Star) => 1,
+        Some(Precision::Count(_)) | None => 0,
+    }
+}
+
+fn argument_takes(argument: &Argument) -> usize
+    ensures takes { result ≡ argument_takes argument.now }
+    ensures small { result ≤ 1 }
+{
+    match argument {
+        Argument::Implicit => 1,
+        Argument::Positional(_) | Argument::Named(_) => 0,
+    }
+}
+
+fn segment_takes(segment: &Segment) -> usize
+    ensures takes { result ≡ segment_takes segment.now }
+    ensures small { result ≤ 2 }
+{
+    match segment {
+        Segment::Placeholder(placeholder) => {
+            precision_takes(&placeholder.spec.precision) + argument_takes(&placeholder.argument)
+        }
+        Segment::Literal(_) | Segment::EscapedOpen | Segment::EscapedClose => 0,
+    }
+}
+
+// Answers for a placeholder whose value is missing: a fault where the call is strict, and else nothing.
+fn refuse_missing<V: FormatValue>(
+    alloc: Global,
+    input: &Input<'_, V>,
+    next: usize,
+    placeholder: &Placeholder,
+) -> Result<(), Error>
+    requires { PlaceholderFits input.now.source.now placeholder.now }
+    ensures ok { OnOk result (IsFalse input.now.strict) }
+    ensures err { IfErr result (λ e. Tells e (argument_text (scene_of V.meaning input.now) next placeholder.now None None)) }
+{
+    if !input.strict {
+        return Ok(());
+    }
+    let name = argument_name(alloc, input.source, next, &placeholder.argument)?;
+    Err(Error::MissingArgument {
+        name,
+        span: placeholder.span,
+    })
+}
+
+// Appends a placeholder: precision, argument, width, type, text, in this order.
+fn push_placeholder<V: FormatValue>(
+    alloc: Global,
+    output: &mut String,
+    scratch: &mut String,
+    input: &Input<'_, V>,
+    next: usize,
+    placeholder: &Placeholder,
+) -> Result<(), Error>
+    requires fits { PlaceholderFits input.now.source.now placeholder.now }
+    requires room { next + 1 < 2 ^ 64 }
+    ensures ok { OnOk result (Appends (placeholder_text (scene_of V.meaning input.now) next placeholder.now) (string_bytes output.old) (string_bytes output.new)) }
+    ensures err { IfErr result (λ e. Tells e (placeholder_text (scene_of V.meaning input.now) next placeholder.now)) }
+    ensures unchanged { OnErr result (string_bytes output.new ≡ string_bytes output.old) }
+{
+    let precision = precision_of(alloc, input, next, &placeholder.spec.precision)?;
+    let own = next + precision_takes(&placeholder.spec.precision);
+    match value_at(input, own, &placeholder.argument) {
+        Some(value) => push_present(alloc, output, scratch, input, placeholder, precision, value),
+        None => refuse_missing(alloc, input, own, placeholder),
+    }
+}
+
+// Appends one segment, or leaves the output as it was.
+fn push_segment<V: FormatValue>(
+    alloc: Global,
+    output: &mut String,
+    scratch: &mut String,
+    input: &Input<'_, V>,
+    next: usize,
+    segment: &Segment,
+) -> Result<(), Error>
+    requires fits { SegmentFits input.now.source.now segment.now }
+    requires room { next + 1 < 2 ^ 64 }
+    ensures ok { OnOk result (Appends (segment_text (scene_of V.meaning input.now) next segment.now) (string_bytes output.old) (string_bytes output.new)) }
+    ensures err { IfErr result (λ e. Tells e (segment_text (scene_of V.meaning input.now) next segment.now)) }
+    ensures unchanged { OnErr result (string_bytes output.new ≡ string_bytes output.old) }
+{
+    match segment {
+        Segment::Literal(span) => Ok(output.push_str(covered(input.source, span))?),
+        Segment::EscapedOpen => Ok(output.push('{')?),
+        Segment::EscapedClose => Ok(output.push('}')?),
+        Segment::Placeholder(placeholder) => {
+            push_placeholder(alloc, output, scratch, input, next, placeholder)
+        }
+    }
+}
+
+/// Appends what a parsed template prints over values: `args` by position, and `named` for the names among these positions.
+/// Where `strict` isn't set, a placeholder whose value is missing prints nothing.
+pub fn render<V: FormatValue>(
+    alloc: Global,
+    output: &mut String,
+    source: &str,
+    parsed: &FormatString,
+    args: &[V],
+    named: &[Name],
+    strict: bool,
+) -> Result<(), Error>
+    requires { Fits source.now parsed.now.segments.items }
+    ensures ok { let all = rendered (scene_over V.meaning source.now args.now named.now strict) 0 parsed.now.segments.items in
+        OnOk result (Appends (whole all) (string_bytes output.old) (string_bytes output.new)) }
+    ensures err { let all = rendered (scene_over V.meaning source.now args.now named.now strict) 0 parsed.now.segments.items in
+        IfErr result (λ e. Tells e (whole all)) }
+
+    // After a refusal stands the text before the fault, or without memory a front of the text.
+    ensures stands { let all = rendered (scene_over V.meaning source.now args.now named.now strict) 0 parsed.now.segments.items in
+        IfErr result (λ e. Holds e (string_bytes output.old) (string_bytes output.new) all.text) }
+{
+    let input = Input {
+        source,
+        args,
+        named,
+        strict,
+    };
+    let mut scratch = String::new(alloc);
+    let mut next = 0;
+    'segments: for segment in &parsed.segments {
+        push_segment(alloc, output, &mut scratch, &input, next, segment)?;
+        next += segment_takes(segment);
+    }
+    Ok(())
+}

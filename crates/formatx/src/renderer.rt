@@ -1,0 +1,118 @@
+// A template with its values.
+ghost use Rattle.std.specs.Prelude.{◌≡◌, ◌++◌, ◌∷◌, [], IfErr, IfOk, OnErr, OnOk, Ok, true, false, length, map, string_bytes};
+ghost use Rattle.formatx.specs.Fault.{Tells};
+ghost use Rattle.formatx.specs.Templates.{filled};
+ghost use Rattle.formatx.specs.Text.{formatted};
+
+use crate::error::Error;
+use crate::template::Template;
+use crate::value::{FormatValue, Name};
+use std::alloc::Global;
+use std::marker::Model;
+
+/// A template with its values: each has a position, counted from 0, and some have names too.
+#[derive(Drop)]
+pub struct Renderer<'a, V: FormatValue> {
+    template: &'a Template,
+    values: Vec<V>,
+    names: Vec<Name>,
+    alloc: Global,
+}
+
+impl<'a, V: FormatValue> Model for Renderer<'a, V> {
+    ghost use Rattle.std.specs.Prelude.{map};
+    ghost use Rattle.formatx.specs.Templates.{Filling};
+    ghost use Rattle.formatx.specs.Text.{named_position};
+
+    ghost Value = { Filling V };
+
+    ghost view = { λ r. record { source = r.template.now; values = r.values.items; names = map named_position r.names.items } };
+}
+
+impl<'a, V: FormatValue> Renderer<'a, V> {
+    pub(crate) fn new(template: &'a Template, alloc: Global) -> Renderer<'a, V>
+        ensures source { result.source ≡ template.now }
+        ensures values { result.values ≡ [] }
+        ensures names { result.names ≡ [] }
+    {
+        Renderer {
+            template,
+            values: Vec::new(alloc),
+            names: Vec::new(alloc),
+            alloc,
+        }
+    }
+
+    fn add(&mut self, value: V) -> Result<(), Error>
+        ensures ok { OnOk result (self.new ≡ record self.old { values = self.old.values ++ value ∷ [] }) }
+        ensures err { OnErr result (self.new ≡ self.old) }
+        ensures memory { IfErr result (λ e. e ≡ Error.NoMemory) }
+    {
+        match self.values.push(value) {
+            Ok(()) => Ok(()),
+            Err(_) => Err(Error::NoMemory),
+        }
+    }
+
+    fn add_named(&mut self, name: &str, value: V) -> Result<(), Error>
+        ensures ok { OnOk result (self.new ≡ record self.old { values = self.old.values ++ value ∷ []; names = self.old.names ++ record { name = name.now; index = length self.old.values } ∷ [] }) }
+        ensures err { OnErr result (self.new ≡ self.old) }
+        ensures memory { IfErr result (λ e. e ≡ Error.NoMemory) }
+    {
+        let index = self.values.len();
+        let name = String::from_str(self.alloc, name)?;
+        self.names.reserve(1)?;
+        if self.values.push(value).is_err() {
+            return Err(Error::NoMemory);
+        }
+        self.names.push(Name { name, index }).unwrap();
+        Ok(())
+    }
+
+    /// Adds a value at the next position. Without memory the value is dropped, and the rest stays as before.
+    pub fn arg(&mut self, value: V) -> Result<&mut Self, Error>
+        ensures same { IfOk result (λ r. r.ghost_name ≡ self.entry.ghost_name) }
+        ensures ok { IfOk result (λ r. r.now ≡ record self.old { values = self.old.values ++ value ∷ [] }) }
+        ensures memory { IfErr result (λ e. e ≡ Error.NoMemory) }
+    {
+        self.add(value)?;
+        Ok(self)
+    }
+
+    /// Adds a value at the next position, and a name for this position. Where a name comes twice, the first counts. Without
+    /// memory the value is dropped, and the rest stays as before.
+    pub fn named(&mut self, name: &str, value: V) -> Result<&mut Self, Error>
+        ensures same { IfOk result (λ r. r.ghost_name ≡ self.entry.ghost_name) }
+        ensures ok { IfOk result (λ r. r.now ≡ record self.old { values = self.old.values ++ value ∷ []; names = self.old.names ++ record { name = name.now; index = length self.old.values } ∷ [] }) }
+        ensures memory { IfErr result (λ e. e ≡ Error.NoMemory) }
+    {
+        self.add_named(name, value)?;
+        Ok(self)
+    }
+
+    /// The template's text. A missing value is refused.
+    pub fn finish(&self) -> Result<String, Error>
+        ensures ok { IfOk result (λ text. formatted (filled V.meaning self.now true) ≡ Ok (string_bytes text)) }
+        ensures err { IfErr result (λ e. Tells e (formatted (filled V.meaning self.now true))) }
+    {
+        self.template.print(
+            self.alloc,
+            self.values.as_slice(),
+            self.names.as_slice(),
+            true,
+        )
+    }
+
+    /// The template's text. A placeholder whose value is missing prints nothing.
+    pub fn finish_lenient(&self) -> Result<String, Error>
+        ensures ok { IfOk result (λ text. formatted (filled V.meaning self.now false) ≡ Ok (string_bytes text)) }
+        ensures err { IfErr result (λ e. Tells e (formatted (filled V.meaning self.now false))) }
+    {
+        self.template.print(
+            self.alloc,
+            self.values.as_slice(),
+            self.names.as_slice(),
+            false,
+        )
+    }
+}
