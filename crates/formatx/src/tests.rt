@@ -43,6 +43,14 @@ fn printed<V: FormatValue + Copy>(
 }
 
 // Compares what templates print over numbers by position with what they should.
+// A template over one value.
+fn one_printed<V: FormatValue>(alloc: Global, source: &str, value: V) -> Result<String, Error> {
+    let template = Template::new(alloc, source)?;
+    let mut renderer = template.render::<V>(alloc);
+    let _ = renderer.arg(value)?;
+    renderer.finish()
+}
+
 fn compare_numbers(
     rt: &impl Abort,
     alloc: Global,
@@ -392,10 +400,8 @@ fn other_kinds(rt: HostRuntime) -> Result<(), Fail> {
 fn boxed_values(rt: HostRuntime) -> Result<(), Fail> {
     let alloc = rt.alloc();
     let boxed: Box<dyn FormatValue> = Box::new(alloc, 7u8)?;
-    let template = Template::new(alloc, "{:>3}")?;
-    let mut renderer = template.render::<Box<dyn FormatValue>>(alloc);
-    let _ = renderer.arg(boxed)?;
-    assert_eq!(rt; renderer.finish()?.as_str(), "  7");
+    let text: String = told(alloc, one_printed(alloc, "{:>3}", boxed))?;
+    assert_eq!(rt; text.as_str(), "  7");
     Ok(())
 }
 
