@@ -42,7 +42,6 @@ fn printed<V: FormatValue + Copy>(
     }
 }
 
-// Compares what templates print over numbers by position with what they should.
 // A template over one value.
 fn one_printed<V: FormatValue>(alloc: Global, source: &str, value: V) -> Result<String, Error> {
     let template = Template::new(alloc, source)?;
@@ -51,6 +50,7 @@ fn one_printed<V: FormatValue>(alloc: Global, source: &str, value: V) -> Result<
     renderer.finish()
 }
 
+// Compares what templates print over numbers by position with what they should.
 fn compare_numbers(
     rt: &impl Abort,
     alloc: Global,
