@@ -94,6 +94,8 @@ refused_is rest given faults held sink_faults input input' output limit bytes wh
       no_fault = tt;
       refused = λ _. told (rest input) (rest input') bytes (λ b. RefusesLines (lines_of b) why) eaten end bad;
       refuses = told (rest input) (rest input') bytes _ eaten end (λ other is. inl (ap Err (lines_one (lines_of bytes) why other bad is)));
+      after_reading = λ _. end;
+      taken = omega (arith, within);
       too_long = ((λ e. absurd (other_than why TooLong (λ h. h) here (Err why) refl e)), (λ lt. absurd (omega arith)));
       read_fault = λ e. absurd (other_than why ReadFault (λ h. h) here (Err why) refl e);
       write_fault = λ e. absurd (other_than why WriteFault (λ h. h) here (Err why) refl e);
@@ -112,6 +114,8 @@ no_memory_is rest given faults held sink_faults input input' output limit bytes 
       no_fault = tt;
       refused = λ h. absurd h;
       refuses = told (rest input) (rest input') bytes _ eaten end (λ other is. inr (inr (inr refl)));
+      after_reading = λ h. absurd h;
+      taken = omega (arith, within);
       too_long = ((λ e. absurd (cc)), (λ lt. absurd (omega arith)));
       read_fault = λ e. absurd (cc);
       write_fault = λ e. absurd (cc);
@@ -131,6 +135,8 @@ write_fault_is rest given faults held sink_faults input input' output output' li
       no_fault = tt;
       refused = λ h. absurd h;
       refuses = told (rest input) (rest input') bytes _ eaten end (λ other is. absurd (rewritten_is_kept bytes text other written is));
+      after_reading = λ h. absurd h;
+      taken = omega (arith, within);
       too_long = ((λ e. absurd (cc)), (λ lt. absurd (omega arith)));
       read_fault = λ e. absurd (cc);
       write_fault = λ _. rose;
@@ -151,6 +157,8 @@ success_is rest given faults held sink_faults input input' output output' limit 
       no_fault = (still, still');
       refused = tt;
       refuses = told (rest input) (rest input') bytes _ eaten end (λ other is. absurd (rewritten_is_kept bytes text other written is));
+      after_reading = tt;
+      taken = omega (arith, within);
       too_long = ((λ e. absurd (cc)), (λ lt. absurd (omega arith)));
       read_fault = λ e. absurd (cc);
       write_fault = λ e. absurd (cc);

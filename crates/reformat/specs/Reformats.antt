@@ -55,6 +55,10 @@ pub record Reformats {S K : Type 0} (rest : S → Option (List ℕ)) (given faul
   pub refused : IfErr result (λ why. IsOfLines why → IfSome (rest input) (λ bytes. RefusesLines (lines_of bytes) why))
   -- and it comes wherever the lines give it, once all could be read
   pub refuses : IfSome (rest input) (λ bytes. (why : ReformatError) → RefusesLines (lines_of bytes) why → (result ≡ Err why) ⊎ StopsBefore result)
+  -- and it comes only after all was read, so that a fault of reading and the limit go before it
+  pub after_reading : IfErr result (λ why. IsOfLines why → IsAtEnd (rest input'))
+  -- no more than one byte past the limit is taken
+  pub taken : given input' ≤ given input + limit + 1
   -- past the limit: exactly where the source gave more than the limit in this call
   pub too_long : IsErrOf result TooLong ↔ (given input + limit < given input')
   -- a read fault: only where the source counted one in this call

@@ -28,6 +28,7 @@ pub(crate) fn read_all<S: Source>(
     // One byte past the limit, and only then.
     ensures too_long { IsErrOf result ReformatError.TooLong → S.given input.new ≡ S.given input.old + limit + 1 }
     ensures longer { IsErrOf result ReformatError.TooLong → IfSome (S.rest input.old) (λ bytes. limit < length bytes) }
+    ensures taken { S.given input.new ≤ S.given input.old + limit + 1 }
     ensures within { IsErrOf result ReformatError.TooLong ⊎ (S.given input.new ≤ S.given input.old + limit) }
 {
     let mut bytes = Vec::new(alloc);
