@@ -6,9 +6,11 @@ ghost use Rattle.whiteread.specs.Whole.{ReadsWhole};
 
 pub mod adapters;
 pub mod laws;
+pub mod reader;
 pub mod stream;
 
 use std::alloc::Global;
+pub use reader::Reader;
 pub use stream::FromStream;
 use stream::{Error, SplitAsciiWhitespace, StrStream};
 
