@@ -10,6 +10,7 @@ pub mod White
 pub mod Whole
 pub mod ErrorText
 pub mod Lines
+pub mod Given
 pub mod Pending
 pub mod ReaderState
 pub mod LineCall

@@ -1,6 +1,7 @@
 -- What the reading of a line does to a reader.
 use Rattle.std.specs.Prelude.{◌≡◌, ◌≤◌, ◌⊎◌, ℕ, ◌+◌, List, [], ◌++◌, length, min, max, Bool, true, false, Option, Result, Ok, Err, IsUtf8}
-use Rattle.std.specs.Io.KnownBytes.{Consumes, IsAtEnd}
+use Rattle.std.specs.Io.KnownBytes.{IsAtEnd}
+use Rattle.whiteread.specs.Given.{Gave}
 use Rattle.whiteread.specs.Lines.{HasNoFeed, IsFirstLine}
 use Rattle.whiteread.specs.Stream.{CountsNext}
 use Rattle.whiteread.specs.ReaderState.{reader_source, reader_limit, reader_taken, reader_past, reader_waiting, reader_line, reader_passed, reader_row, reader_faults}
@@ -12,11 +13,6 @@ use Rattle.whiteread.specs.declared.stream.error.IoFault.TheVariants.{ReadFault,
 -- The row after this one; it stops at the greatest u64.
 abbrev pub next_row : ℕ → ℕ
 next_row row = min (row + 1) 18446744073709551615
-
--- Between these two states of a source it gave these bytes.
-pub record Gave {B : Type 0} (rest : B → Option (List ℕ)) (given : B → ℕ) (old new : B) (got : List ℕ) : Type 0 where
-  pub bytes : Consumes (rest old) (rest new) got
-  pub count : given new ≡ given old + length got
 
 -- What the source gave waits, and no line was taken.
 pub record Waits {B : Type 0} (rest : B → Option (List ℕ)) (given : B → ℕ) (old new : Reader B) : Type 0 where

@@ -9,8 +9,8 @@ pub mod laws;
 pub mod reader;
 pub mod stream;
 
-use std::alloc::Global;
 pub use reader::Reader;
+use std::alloc::Global;
 pub use stream::FromStream;
 use stream::{Error, SplitAsciiWhitespace, StrStream};
 

@@ -126,9 +126,10 @@ impl<B: Source> Reader<B> {
             self.too_long = self.too_long.saturating_add(1);
             return Err(stream::Error::IoError(IoFault::TooLong));
         }
-        let count = self
-            .waiting
-            .read_from(&mut self.source, (self.limit - self.taken).min(PIECE) as usize)?;
+        let count = self.waiting.read_from(
+            &mut self.source,
+            (self.limit - self.taken).min(PIECE) as usize,
+        )?;
         self.taken += count as u64;
         Ok(count > 0)
     }

@@ -13,6 +13,10 @@ pub type Result<T> = std::result::Result<T, Error>;
 impl Error {
     /// An error without a place.
     pub(crate) fn without_place(error: stream::Error) -> Error {
-        Error { error, place: None, rendered: None }
+        Error {
+            error,
+            place: None,
+            rendered: None,
+        }
     }
 }

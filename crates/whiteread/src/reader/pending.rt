@@ -3,8 +3,7 @@ ghost use Rattle.std.specs.Prelude.{◌≡◌, ◌≤◌, ◌<◌, ◌-◌, ◌�
 ghost use Rattle.whiteread.specs.Lines.{HasNoFeed, IsWhole};
 ghost use Rattle.std.specs.Io.KnownBytes.{IsAtEnd};
 ghost use Rattle.edge_io.specs.Ends.{Rises};
-ghost use Rattle.whiteread.specs.LineCall.{Gave};
-ghost use Rattle.whiteread.specs.Pending.{pending_bytes};
+ghost use Rattle.whiteread.specs.Given.{Gave};
 
 use crate::stream::{Error, IoFault, Result};
 use edge_io::Source;
@@ -23,6 +22,8 @@ pub(crate) struct Pending {
 }
 
 impl Pending {
+    ghost use Rattle.whiteread.specs.Pending.{pending_bytes};
+
     pub(crate) fn new(alloc: Global) -> Pending
         ensures { pending_bytes result ≡ [] }
     {
