@@ -1,5 +1,5 @@
 // Lines of a source, read in pieces, and the values that are read from them.
-ghost use Rattle.std.specs.Prelude.{◌≡◌, ◌≤◌, [], true, false, string_bytes, IsCharBoundary};
+ghost use Rattle.std.specs.Prelude.{◌≡◌, ◌≤◌, ◌↔◌, [], true, false, IsTrue, string_bytes, IsCharBoundary};
 ghost use Rattle.whiteread.specs.Lines.{HasNoFeed};
 ghost use Rattle.whiteread.specs.Pending.{pending_bytes};
 
@@ -84,6 +84,15 @@ impl<B: Source> Reader<B> {
         ensures { result.now ≡ reader_line self.now }
     {
         self.line.as_str()
+    }
+
+    /// Whether a whole line is waiting, so that the next reading of a line makes no read.
+    pub fn line_waits(&mut self) -> bool
+        ensures waits { IsTrue result ↔ (¬ HasNoFeed (reader_waiting self.old)) }
+        ensures waiting { reader_waiting self.new ≡ reader_waiting self.old }
+        ensures unchanged { self.new ≡ record self.old { waiting = self.new.waiting } }
+    {
+        self.waiting.line_len().is_some()
     }
 
     /// The source. Bytes that were taken already are dropped.
