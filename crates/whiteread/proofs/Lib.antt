@@ -4,3 +4,4 @@ pub mod CallLemmas
 pub mod NextLemmas
 pub mod SplitLemmas
 pub mod WhiteLemmas
+pub mod LineLemmas

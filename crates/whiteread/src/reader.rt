@@ -19,7 +19,7 @@ const PIECE: u64 = 4096;
 /// Hands out the lines of a source one by one, and reads words and values from them. It takes at most so many bytes
 /// as its limit says, reads only where no whole line is waiting, and holds no more than a line and a read.
 #[derive(Drop)]
-pub struct Reader<B: Source> {
+pub struct Reader<B> {
     alloc: Global,
     source: B,
     limit: u64,

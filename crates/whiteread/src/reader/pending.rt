@@ -1,6 +1,7 @@
 // Bytes that were taken from a source and wait for the next line.
-ghost use Rattle.std.specs.Prelude.{◌≡◌, ◌≤◌, ◌<◌, ◌-◌, ◌⊎◌, ◌++◌, [], List, ℕ, length, take, drop, MatchOption, MatchResult, IfOk, IfErr, OnOk, IsErrOf};
-ghost use Rattle.whiteread.specs.Lines.{HasNoFeed, IsWhole};
+ghost use Rattle.std.specs.Prelude.{◌≡◌, ◌≤◌, ◌<◌, ◌+◌, ◌⊎◌, ◌++◌, ◌==◌, [], List, ℕ, length, take, drop, MatchOption, MatchResult, IfOk, IfErr, OnOk, IsErrOf};
+ghost use Rattle.std.specs.List.{position};
+ghost use Rattle.whiteread.specs.Lines.{HasNoFeed, IsWhole, line_feed};
 ghost use Rattle.std.specs.Io.KnownBytes.{IsAtEnd};
 ghost use Rattle.edge_io.specs.Ends.{Rises};
 ghost use Rattle.whiteread.specs.Given.{Gave};
@@ -9,6 +10,12 @@ use crate::stream::{Error, IoFault, Result};
 use edge_io::Source;
 use std::alloc::Global;
 
+fn feed_at(bytes: &[u8]) -> Option<usize>
+    ensures { result ≡ position (λ byte. byte == line_feed) bytes.now }
+{
+    bytes.iter().position(|byte| *byte == b'\n')
+}
+
 /// Bytes in the order in which they came. They are put in at the back and taken out at the front; each is moved at
 /// most once, and looked at once in the search for line feeds.
 #[derive(Drop)]
@@ -16,9 +23,8 @@ pub(crate) struct Pending {
     bytes: Vec<u8>,
     start: usize,
     searched: usize,
-    ghost begins: { start ≤ searched },
-    ghost within: { searched ≤ length bytes.items },
-    ghost no_feed: { HasNoFeed (take (searched - start) (drop start bytes.items)) },
+    ghost within: { start + searched ≤ length bytes.items },
+    ghost no_feed: { HasNoFeed (take searched (drop start bytes.items)) },
 }
 
 impl Pending {
@@ -45,14 +51,13 @@ impl Pending {
         ensures bytes { pending_bytes self.new ≡ pending_bytes self.old }
         ensures line { MatchOption result (HasNoFeed (pending_bytes self.old)) (λ len. (len ≤ length (pending_bytes self.old)) × IsWhole (take len (pending_bytes self.old))) }
     {
-        let unseen = &self.bytes[self.searched..];
-        match unseen.iter().position(|byte| *byte == b'\n') {
+        match feed_at(&self.bytes[self.start + self.searched..]) {
             Some(at) => {
                 self.searched += at;
-                Some(self.searched + 1 - self.start)
+                Some(self.searched + 1)
             }
             None => {
-                self.searched = self.bytes.len();
+                self.searched = self.bytes.len() - self.start;
                 None
             }
         }
@@ -72,7 +77,7 @@ impl Pending {
         ensures { pending_bytes self.new ≡ drop len (pending_bytes self.old) }
     {
         self.start += len;
-        self.searched = self.searched.max(self.start);
+        self.searched = self.searched.saturating_sub(len);
     }
 
     /// Makes one read of at most so many bytes, puts what it gives in at the back, and answers how many there were.
@@ -87,21 +92,31 @@ impl Pending {
     {
         self.shift();
         let len = self.bytes.len();
-        if self.bytes.resize(len + ask, 0).is_err() {
+        let Some(room) = len.checked_add(ask) else {
+            return Err(Error::NoMemory);
+        };
+        if self.bytes.resize(room, 0).is_err() {
             return Err(Error::NoMemory);
         }
-        let answer = source.read(&mut self.bytes[len..]);
-        self.bytes.truncate(len + answer.unwrap_or(0));
-        answer.map_err(|_| Error::IoError(IoFault::ReadFault))
+        match source.read(&mut self.bytes[len..]) {
+            Ok(count) => {
+                self.bytes.truncate(len + count);
+                Ok(count)
+            }
+            Err(_) => {
+                self.bytes.truncate(len);
+                Err(Error::IoError(IoFault::ReadFault))
+            }
+        }
     }
 
     /// Moves the bytes to the front of the buffer.
     fn shift(&mut self)
-        ensures { pending_bytes self.new ≡ pending_bytes self.old }
+        ensures bytes { pending_bytes self.new ≡ pending_bytes self.old }
+        ensures start { self.new.start ≡ 0 }
     {
         if self.start > 0 {
             let _ = self.bytes.drain(..self.start);
-            self.searched -= self.start;
             self.start = 0;
         }
     }
