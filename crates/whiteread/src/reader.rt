@@ -19,7 +19,7 @@ const PIECE: u64 = 4096;
 /// Hands out the lines of a source one by one, and reads words and values from them. It takes at most so many bytes
 /// as its limit says, reads only where no whole line is waiting, and holds no more than a line and a read.
 #[derive(Drop)]
-pub struct Reader<B: Source> {
+pub struct Reader<B> {
     alloc: Global,
     source: B,
     limit: u64,
@@ -38,7 +38,7 @@ pub struct Reader<B: Source> {
 }
 
 impl<B: Source> Reader<B> {
-    ghost use Rattle.whiteread.specs.ReaderState.{reader_source, reader_limit, reader_taken, reader_past, reader_waiting, reader_line, reader_passed, reader_row};
+    ghost use Rattle.whiteread.specs.ReaderState.{reader_source, reader_limit, reader_taken, reader_past, reader_waiting, reader_line, reader_passed, reader_row, ShowsSame};
     ghost use Rattle.whiteread.specs.LineCall.{LineCall};
     ghost use Rattle.whiteread.specs.Told.{inner_answer};
 
@@ -89,8 +89,7 @@ impl<B: Source> Reader<B> {
     /// Whether a whole line is waiting, so that the next reading of a line makes no read.
     pub fn line_waits(&mut self) -> bool
         ensures waits { IsTrue result ↔ (¬ HasNoFeed (reader_waiting self.old)) }
-        ensures waiting { reader_waiting self.new ≡ reader_waiting self.old }
-        ensures unchanged { self.new ≡ record self.old { waiting = self.new.waiting } }
+        ensures unchanged { ShowsSame self.old self.new }
     {
         self.waiting.line_len().is_some()
     }
