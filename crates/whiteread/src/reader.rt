@@ -44,7 +44,7 @@ impl<B: Source> Reader<B> {
 
     /// A reader over the source, with no line yet, that takes at most `limit` bytes. It takes no memory.
     pub fn new(alloc: Global, buf: B, limit: u64) -> Reader<B>
-        ensures source { reader_source result ≡ buf.entry }
+        ensures source { reader_source result ≡ buf }
         ensures limit { reader_limit result ≡ limit }
         ensures taken { reader_taken result ≡ 0 }
         ensures past { reader_past result ≡ false }
@@ -96,7 +96,7 @@ impl<B: Source> Reader<B> {
 
     /// The source. Bytes that were taken already are dropped.
     pub fn into_inner(self) -> B
-        ensures { result ≡ reader_source self.entry }
+        ensures { result ≡ reader_source self }
     {
         let Reader { source, .. } = self;
         source
