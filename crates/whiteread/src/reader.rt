@@ -38,13 +38,13 @@ pub struct Reader<B> {
 }
 
 impl<B: Source> Reader<B> {
-    ghost use Rattle.whiteread.specs.ReaderState.{reader_source, reader_limit, reader_taken, reader_past, reader_waiting, reader_line, reader_passed, reader_row};
+    ghost use Rattle.whiteread.specs.ReaderState.{reader_source, reader_limit, reader_taken, reader_past, reader_waiting, reader_line, reader_passed, reader_row, ShowsSame};
     ghost use Rattle.whiteread.specs.LineCall.{LineCall};
     ghost use Rattle.whiteread.specs.Told.{inner_answer};
 
     /// A reader over the source, with no line yet, that takes at most `limit` bytes. It takes no memory.
     pub fn new(alloc: Global, buf: B, limit: u64) -> Reader<B>
-        ensures source { reader_source result ≡ buf.entry }
+        ensures source { reader_source result ≡ buf }
         ensures limit { reader_limit result ≡ limit }
         ensures taken { reader_taken result ≡ 0 }
         ensures past { reader_past result ≡ false }
@@ -89,15 +89,14 @@ impl<B: Source> Reader<B> {
     /// Whether a whole line is waiting, so that the next reading of a line makes no read.
     pub fn line_waits(&mut self) -> bool
         ensures waits { IsTrue result ↔ (¬ HasNoFeed (reader_waiting self.old)) }
-        ensures waiting { reader_waiting self.new ≡ reader_waiting self.old }
-        ensures unchanged { self.new ≡ record self.old { waiting = self.new.waiting } }
+        ensures unchanged { ShowsSame self.old self.new }
     {
         self.waiting.line_len().is_some()
     }
 
     /// The source. Bytes that were taken already are dropped.
     pub fn into_inner(self) -> B
-        ensures { result ≡ reader_source self.entry }
+        ensures { result ≡ reader_source self }
     {
         let Reader { source, .. } = self;
         source

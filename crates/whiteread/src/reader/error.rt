@@ -1,4 +1,6 @@
 // Errors of a reader, each with its place.
+ghost use Rattle.std.specs.Prelude.{◌≡◌};
+
 use crate::stream;
 
 #[derive(Drop)]
@@ -12,7 +14,9 @@ pub type Result<T> = std::result::Result<T, Error>;
 
 impl Error {
     /// An error without a place.
-    pub(crate) fn without_place(error: stream::Error) -> Error {
+    pub(crate) fn without_place(error: stream::Error) -> Error
+        ensures { result.error ≡ error }
+    {
         Error {
             error,
             place: None,
