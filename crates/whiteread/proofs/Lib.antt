@@ -5,3 +5,4 @@ pub mod NextLemmas
 pub mod SplitLemmas
 pub mod WhiteLemmas
 pub mod LineLemmas
+pub mod AwaitLemmas

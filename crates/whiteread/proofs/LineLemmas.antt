@@ -129,6 +129,6 @@ read_none b old whole buf past back new room len more size long le made whole_bu
         ∙ append-nil old
 
 -- a read gives at most what was asked for
-pub read_fits : (b : Bool) (len size had ask given : ℕ) → size ≡ (if b then len + ask else had) → had ≡ len → given ≡ size - len → given ≤ ask
-read_fits true len size had ask given is long fits = omega arith
-read_fits false len size had ask given is long fits = omega arith
+pub read_fits : (b : Bool) (len size room had ask given : ℕ) → size ≡ (if b then room else had) → room ≡ len + ask → had ≡ len → given ≡ size - len → given ≤ ask
+read_fits true len size room had ask given is more long fits = omega arith
+read_fits false len size room had ask given is more long fits = omega arith

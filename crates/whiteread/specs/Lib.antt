@@ -14,6 +14,7 @@ pub mod Given
 pub mod Pending
 pub mod ReaderState
 pub mod LineCall
+pub mod LineSteps
 pub mod ReaderWords
 pub mod Told
 pub mod Laws
