@@ -1,6 +1,8 @@
 -- The reading of a line, step by step.
 use Rattle.std.proofs.Common.{◌≡◌, ◌≢◌, ◌≤◌, ◌<◌, ◌+◌, ◌-◌, ℕ, Bool, true, false, max, min, List, [], ◌∷◌, ◌++◌, length, drop, take, Option, Some, None, Result, Ok, Err, refl, sym, ◌∙◌, ap, subst, inl, inr, ◌⊎◌, ⊎_elim, arith, add-zero, append-nil, append_assoc, get_or, not, ◌==◌, length-append, length-drop, length-take, take_all, take-append-drop}
-use Rattle.std.specs.Prelude.{IsUtf8}
+use Rattle.std.specs.Prelude.{IsUtf8, IsCharBoundary, if◌then◌else◌}
+use Rattle.std.proofs.lemmas.Str.{IsCharBoundary-start}
+use Rattle.std.proofs.lemmas.List.Elements.{All-drop}
 use Rattle.std.specs.Io.KnownBytes.{Consumes, IsAtEnd}
 use Rattle.std.proofs.KnownBytes.{Consumes-nil, Consumes-trans}
 use Rattle.std.proofs.lemmas.Bool.{false≢true}
@@ -121,7 +123,7 @@ reads_none rest given faults reference old = record {
 
 -- a search changes nothing that a reader shows
 pub reads_searched : {B : Type 0} (rest : Rest B) (given faults reference : B → ℕ) (old mid new : Reader B) → Reads rest given faults reference old mid → ShowsSame mid new → Reads rest given faults reference old new
-reads_searched rest given faults reference old mid new r same =
+reads_searched {B} rest given faults reference old mid new r same =
     let s = same.stays in record {
       waits = record {
         got = r.waits.got;
@@ -226,10 +228,54 @@ await_whole rest given faults reference old mid r no_line len within whole =
     let free : r.free < len = longer r.free r.seen in record {
       outcome = (
         r.waits,
-        record { within = within; first = inl whole; unended = λ none. absurd (let more : len < len = longer len none in omega arith); few = simp length-drop (omega (arith, r.few)) },
+        record { within = within; first = inl whole; unended = λ none. absurd (let more : len < len = longer len none in omega arith); few = let left : length (drop len (reader_waiting mid)) ≡ length (reader_waiting mid) - len = length-drop len (reader_waiting mid) in omega (arith, r.few, left, free) },
         not_past
       );
       step = record { counts = r.counts; stays_past = λ past. r.waits.past ∙ past; kept = r.kept };
       lazy = ⊎_elim (λ (e : reader_source mid ≡ reader_source old). λ _. e) (λ (h : HasNoFeed (reader_waiting old) × (reader_past old ≡ false)). λ (given : (¬ HasNoFeed (reader_waiting old)) ⊎ (reader_past old ≡ true)).
           ⊎_elim (λ (not : ¬ HasNoFeed (reader_waiting old)). absurd (not h.0)) (λ (past : reader_past old ≡ true). absurd (false≢true (sym h.1 ∙ past))) given) r.unread;
     }
+
+pub no_feed_rest : (xs : List ℕ) (len : ℕ) (ys : List ℕ) → ys ≡ drop len xs → HasNoFeed xs → HasNoFeed ys
+no_feed_rest xs len ys is none = subst HasNoFeed (sym is) (All-drop (λ byte. not (byte == line_feed) ≡ true) len xs none)
+
+-- a text that was put at the end of an empty one may be cut at its start
+pub text_pushed : (b : Bool) (new old text front : List ℕ) (passed : ℕ) → new ≡ (if b then old ++ text else old) → old ≡ [] → text ≡ front → IsUtf8 front → passed ≡ 0 → IsCharBoundary new passed
+text_pushed true new old text front passed is empty same utf8 none =
+    let e : new ≡ front = is ∙ ap (λ l. l ++ text) empty ∙ same in
+    subst (λ (n : ℕ). IsCharBoundary new n) (sym none) (IsCharBoundary-start new (subst IsUtf8 (sym e) utf8))
+text_pushed false new old text front passed is empty same utf8 none =
+    let e : new ≡ [] = is ∙ empty in
+    let long = ap length e in
+    (omega arith, λ lt. absurd (omega arith))
+
+-- the same lemmas after a search, where the call that is made next says from which state
+
+pub turn_more : {B : Type 0} (rest : Rest B) (given faults reference : B → ℕ) (old start : Reader B) {mid new : Reader B} (more : Bool) → PieceCall rest given faults reference mid (Ok more) new → more ≡ true
+    → Reads rest given faults reference old start → HasNoFeed (reader_waiting start) → ShowsSame start mid → Reads rest given faults reference old new
+turn_more rest given faults reference old start {mid} {new} true piece is r none same =
+    reads_more rest given faults reference old mid new (reads_searched rest given faults reference old start mid r same) (subst HasNoFeed (sym same.stays.waiting) none) piece
+turn_more rest given faults reference old start {mid} {new} false piece is r none same = absurd (false≢true is)
+
+pub turn_refused : {B : Type 0} (rest : Rest B) (given faults reference : B → ℕ) (old start : Reader B) {mid new : Reader B} (why : Error) → PieceCall rest given faults reference mid (Err why) new
+    → Reads rest given faults reference old start → HasNoFeed (reader_waiting start) → ShowsSame start mid → AwaitCall rest given faults reference old (Err why) new
+turn_refused rest given faults reference old start {mid} {new} why piece r none same =
+    await_refused rest given faults reference old mid new why (reads_searched rest given faults reference old start mid r same) (subst HasNoFeed (sym same.stays.waiting) none) piece
+
+pub turn_end : {B : Type 0} (rest : Rest B) (given faults reference : B → ℕ) (old start : Reader B) {mid new : Reader B} (more : Bool) → PieceCall rest given faults reference mid (Ok more) new → more ≡ false
+    → Reads rest given faults reference old start → HasNoFeed (reader_waiting start) → ShowsSame start mid → length (reader_waiting new) ≡ 0 → AwaitCall rest given faults reference old (Ok None) new
+turn_end rest given faults reference old start {mid} {new} true piece is r none same empty = absurd (false≢true (sym is))
+turn_end rest given faults reference old start {mid} {new} false piece is r none same empty =
+    await_end rest given faults reference old mid new (reads_searched rest given faults reference old start mid r same) (subst HasNoFeed (sym same.stays.waiting) none) piece empty
+
+pub turn_last : {B : Type 0} (rest : Rest B) (given faults reference : B → ℕ) (old start : Reader B) {mid new : Reader B} (more : Bool) → PieceCall rest given faults reference mid (Ok more) new → more ≡ false
+    → Reads rest given faults reference old start → HasNoFeed (reader_waiting start) → ShowsSame start mid → (len : ℕ) → len ≡ length (reader_waiting new) → 0 < len → AwaitCall rest given faults reference old (Ok (Some len)) new
+turn_last rest given faults reference old start {mid} {new} true piece is r none same len long some = absurd (false≢true (sym is))
+turn_last rest given faults reference old start {mid} {new} false piece is r none same len long some =
+    await_last rest given faults reference old mid new (reads_searched rest given faults reference old start mid r same) (subst HasNoFeed (sym same.stays.waiting) none) piece len long some
+
+pub turn_whole : {B : Type 0} (rest : Rest B) (given faults reference : B → ℕ) (old start mid : Reader B) → Reads rest given faults reference old start → ShowsSame start mid
+    → (len : ℕ) → len ≤ length (reader_waiting start) → IsWhole (take len (reader_waiting start)) → AwaitCall rest given faults reference old (Ok (Some len)) mid
+turn_whole rest given faults reference old start mid r same len within whole =
+    await_whole rest given faults reference old mid (reads_searched rest given faults reference old start mid r same) mid.no_line len (omega (arith, within, ap length same.stays.waiting))
+        (subst (λ (l : List ℕ). IsWhole (take len l)) (sym same.stays.waiting) whole)

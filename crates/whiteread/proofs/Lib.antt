@@ -6,3 +6,4 @@ pub mod SplitLemmas
 pub mod WhiteLemmas
 pub mod LineLemmas
 pub mod AwaitLemmas
+pub mod ReadLineLemmas
