@@ -3,11 +3,12 @@ use Rattle.std.proofs.Common.{◌≡◌, ◌≢◌, ◌≤◌, ◌<◌, ◌+◌,
 use Rattle.std.specs.Global.{Global}
 use Rattle.whiteread.specs.Words.{Words}
 use Rattle.whiteread.specs.Stream.{Stream, Answer, OnNoMemory}
-use Rattle.whiteread.specs.Reading.{Relation, Reading, ReadCall, ReadsTold, LowersBy, EndsAtShort, CountsRead, StepsBy, Calls, no_call, one_call, some_calls}
+use Rattle.whiteread.specs.Reading.{Relation, Reading, ReadCall, ReadsTold, LowersBy, EndsAtShort, CountsRead, StepsBy, Calls, no_call, one_call, some_calls, Reached}
 use Rattle.whiteread.specs.Reads.{ReadsOption, optional, ReadsEach, all_values, ReadsAll}
 use Rattle.std.specs.List.{All}
 use Rattle.whiteread.specs.Tuples.{ReadsThen, then, ReadsLater, later}
 use Rattle.whiteread.specs.Adapted.{ReadsToZero, to_zero}
+use Rattle.whiteread.proofs.ReachLemmas.{reached_none, reached_then, reached_read, reached_reads}
 use Rattle.whiteread.specs.declared.stream.error.Error.{Error}
 use Rattle.whiteread.specs.declared.stream.error.Error.TheVariants.{TooShort, Leftovers, ParseError, IoError, NoMemory}
 use Rattle.whiteread.specs.declared.stream.error.Progress.TheVariants.{Nothing, Partial}
@@ -94,7 +95,7 @@ then_refused {S} {A} {B} {C} stream front last first second old mid new value wh
   short = short_refusal B C why (stream.at_end new) two.short;
   ends = tt;
   counts = counts_refusal B C (stream.faults old) why (stream.faults new) (counts_from {T = B} (stream.faults old) (stream.faults mid) (Err why) (stream.faults new) one.counts two.counts);
-  step = tt;
+  step = reached_reads stream first second old (Ok value) mid (Err why) new one two;
   memory = memory_second B C why first.allocates second.allocates stream.allocates two.memory;
 }
 
@@ -112,7 +113,7 @@ then_refused_first {S} {A} {B} {C} stream front last first second old new why on
   short = short_refusal A C why (stream.at_end new) one.short;
   ends = tt;
   counts = counts_refusal A C (stream.faults old) why (stream.faults new) one.counts;
-  step = tt;
+  step = reached_read stream first old (Err why) new one;
   memory = memory_first A C why first.allocates second.allocates stream.allocates one.memory;
 }
 
@@ -132,7 +133,7 @@ then_read stream front last first second old mid new value one two = record {
   short = tt;
   ends = two.ends;
   counts = two.counts ∙ one.counts;
-  step = tt;
+  step = reached_reads stream first second old (Ok (front value)) mid (Ok (last value)) new one two;
   memory = tt;
 }
 
@@ -147,13 +148,14 @@ pub record EachCall {S T : Type 0} (stream : Stream S) (reading : Reading T) (ol
   pub words : EachTold reading.reads (stream.left old) values (stream.left new)
   pub bound : stream.bound new ≤ stream.bound old
   pub counts : stream.faults new ≡ stream.faults old
+  pub reached : Reached stream.step old new
 
 each_told_none : {T : Type 0} (reads : Relation T) (start : Option Words) → EachTold reads start [] start
 each_told_none reads None = tt
 each_told_none reads (Some words) = (words, refl, refl)
 
 pub each_none : {S T : Type 0} (stream : Stream S) (reading : Reading T) (old : S) → EachCall stream reading old [] old
-each_none stream reading old = record { words = each_told_none reading.reads (stream.left old); bound = omega arith; counts = refl }
+each_none stream reading old = record { words = each_told_none reading.reads (stream.left old); bound = omega arith; counts = refl; reached = reached_none stream.step old old refl }
 
 reads_more : {T : Type 0} (reads : Relation T) (words mid rest : Words) (values : List T) (value : T)
     → ReadsEach reads words values mid → reads mid (Ok value) rest → ReadsEach reads words (values ++ value ∷ []) rest
@@ -173,6 +175,7 @@ each_more stream reading old mid new values value each one = record {
   words = each_told_more reading.reads (stream.left old) (stream.left mid) (stream.left new) values value each.words one.words;
   bound = omega (arith, each.bound, one.bound);
   counts = one.counts ∙ each.counts;
+  reached = reached_then stream.step old mid new each.reached (reached_read stream reading mid (Ok value) new one);
 }
 
 told_nothing : {T : Type 0} (reads : Relation T) (start new : Option Words) → ReadsTold reads start (Err (TooShort Nothing)) new → ReadsTold (ReadsOption reads) start (Ok None) new
@@ -182,7 +185,7 @@ told_nothing reads (Some words) new told = told
 none_step : {S : Type 0} (T : Type 0) (calls : Calls) (step : S → Answer → S → Type 0) (old new : S) → StepsBy {T = T} calls step old (Err (TooShort Nothing)) new → StepsBy {T = Option T} calls step old (Ok None) new
 none_step T no_call step old new by = by
 none_step T one_call step old new by = (by.0, by.1, tt)
-none_step T some_calls step old new by = tt
+none_step T some_calls step old new by = by
 
 -- nothing of an optional value
 pub none_read : {S T : Type 0} (stream : Stream S) (reading : Reading T) (old new : S)
@@ -222,7 +225,7 @@ to_zero_read stream items zero reading old new value last some is each least = r
   short = tt;
   ends = λ never. absurd never;
   counts = each.counts;
-  step = tt;
+  step = each.reached;
   memory = tt;
 }
 

@@ -2,6 +2,7 @@
 use Rattle.std.proofs.Common.{◌≡◌, ◌≤◌, ◌<◌, ℕ, List, [], ◌∷◌, length, drop, max, Option, Some, None, Result, Ok, Err, refl, sym, ◌∙◌, ap, subst, arith}
 use Rattle.whiteread.specs.Words.{Words, words}
 use Rattle.whiteread.specs.Stream.{Stream, Answer, NextCall, TakesFirst, LowersAtWord, EndsAtNone, CountsNext, told_stream}
+use Rattle.whiteread.specs.Reading.{Reached}
 use Rattle.whiteread.specs.declared.stream.error.Error.{Error}
 
 -- a step of a stream whose words are told, by which its first word is taken, is a call of `next`
@@ -33,3 +34,4 @@ pub record Skips {S : Type 0} (stream : Stream S) (old new : S) : Type 0 where
   pub words : SkipsTold (stream.left old) (stream.left new)
   pub bound : stream.bound new ≤ stream.bound old
   pub counts : stream.faults new ≡ stream.faults old
+  pub reached : Reached stream.step old new

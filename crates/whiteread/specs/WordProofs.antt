@@ -14,6 +14,7 @@ use Rattle.whiteread.specs.Words.{Words, white_words, runs, pieces, onto_first, 
 use Rattle.whiteread.specs.Stream.{IsStream}
 use Rattle.whiteread.specs.White.{white_stream}
 
+-- A test of a byte or a character answers yes or no.
 abbrev pub Test : Type 0
 Test = ℕ → Bool
 
