@@ -2,7 +2,6 @@ pub mod WordLemmas
 pub mod FoundLemmas
 pub mod ReachLemmas
 pub mod CallLemmas
-pub mod WholeLemmas
 pub mod NextLemmas
 pub mod SplitLemmas
 pub mod WhiteLemmas

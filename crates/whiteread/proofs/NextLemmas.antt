@@ -1,9 +1,8 @@
 -- Calls of `next`, one after another.
-use Rattle.std.proofs.Common.{◌≡◌, ◌≤◌, ◌<◌, ℕ, List, [], ◌∷◌, length, drop, max, Option, Some, None, Result, Ok, Err, refl, sym, ◌∙◌, ap, subst, arith}
+use Rattle.std.proofs.Common.{◌≡◌, ◌≤◌, ℕ, List, [], length, Option, Some, None, Ok, refl, ap, arith}
 use Rattle.whiteread.specs.Words.{Words, words}
-use Rattle.whiteread.specs.Stream.{Stream, Answer, NextCall, TakesFirst, LowersAtWord, EndsAtNone, CountsNext, told_stream}
+use Rattle.whiteread.specs.Stream.{Stream, Answer, NextCall, TakesFirst, told_stream}
 use Rattle.whiteread.specs.Reading.{Reached}
-use Rattle.whiteread.specs.declared.stream.error.Error.{Error}
 
 -- a step of a stream whose words are told, by which its first word is taken, is a call of `next`
 pub told_call : {S : Type 0} (left : S → Words) (step : S → Answer → S → Type 0) (old : S) (found : Option (List ℕ)) (new : S)

@@ -1,5 +1,5 @@
 -- Calls of `next`, one after another, from a stream to another one.
-use Rattle.std.proofs.Common.{◌≡◌, List, [], ◌∷◌, Result, Ok, Err, refl, subst}
+use Rattle.std.proofs.Common.{◌≡◌, List, [], ◌∷◌, Result, refl, subst}
 use Rattle.whiteread.specs.Stream.{Stream, Answer}
 use Rattle.whiteread.specs.Reading.{Reading, ReadCall, Calls, no_call, one_call, some_calls, StepsBy, Reaches, Reached}
 use Rattle.whiteread.specs.declared.stream.error.Error.{Error}

@@ -1,10 +1,10 @@
 -- A call of `next` over a split text.
-use Rattle.std.proofs.Common.{◌≡◌, ◌≤◌, ◌<◌, ℕ, List, [], ◌∷◌, length, drop, drop_of_length-le, max, Option, Some, None, Ok, Err, refl, sym, ◌∙◌, ap, subst, arith}
+use Rattle.std.proofs.Common.{◌≡◌, ◌≤◌, ℕ, List, [], ◌∷◌, length, drop, drop_of_length-le, max, Option, Some, None, Ok, Err, refl, sym, ◌∙◌, ap, arith}
 use denote.Ref.{Bor}
-use Rattle.whiteread.specs.Words.{Words, words}
+use Rattle.whiteread.specs.Words.{words}
 use Rattle.whiteread.specs.Stream.{Answer, TakesFirst, NextCall, answer_of}
 use Rattle.whiteread.specs.Reading.{Reaches, Reached}
-use Rattle.whiteread.specs.Found.{NextWord, FindsWord}
+use Rattle.whiteread.specs.Found.{NextWord}
 use Rattle.whiteread.specs.Split.{split_text, split_position, words_left, SplitStep, GivesWord, split_stream}
 use Rattle.whiteread.specs.declared.stream.split.SplitAsciiWhitespace.{SplitAsciiWhitespace}
 use Rattle.whiteread.proofs.NextLemmas.{told_call}

@@ -1,5 +1,5 @@
 -- Laws of readings that no call carries.
-use Rattle.std.specs.Prelude.{◌≡◌, ◌<◌, ◌↔◌, ℕ, Bool, List, length, Option, Some, None, Ok, Err}
+use Rattle.std.specs.Prelude.{◌≡◌, ◌<◌, ◌↔◌, ℕ, Bool, List, length, Option, None, Ok, Err}
 use Rattle.whiteread.specs.Words.{Words, AreLongestRuns}
 use Rattle.whiteread.specs.Reading.{Relation}
 use Rattle.whiteread.specs.declared.stream.error.Error.TheVariants.{TooShort}

@@ -18,15 +18,15 @@ pub data Calls : Type 0 where
 
 -- This is what reading a type means.
 pub record Reading (T : Type 0) : Type 1 where
-  -- what it reads
+  -- It reads by this relation.
   pub reads : Relation T
-  -- an Ok takes at least so many words
+  -- An Ok takes at least so many words.
   pub least : ℕ
-  -- an Ok with such a value leaves the stream at its end
+  -- An Ok with such a value leaves the stream at its end.
   pub ends : T → Type 0
-  -- how often it calls `next`
+  -- It calls `next` so often.
   pub calls : Calls
-  -- whether it may want memory of its own
+  -- It may want memory of its own, or never does.
   pub allocates : Bool
 
 -- A front of the words was taken, and by an Ok at least so many.

@@ -1,13 +1,13 @@
 -- What each type reads.
-use Rattle.std.specs.Prelude.{◌≡◌, ◌≢◌, ℕ, ◌+◌, ℤ, Bool, true, false, List, [], ◌∷◌, ◌++◌, ◌⊎◌, Option, Some, None, Result, Ok, Err, IfErr, IsOk, IsOkAnd, MatchResult, String, Vec, string_bytes, encode_utf8, ⊤}
+use Rattle.std.specs.Prelude.{◌≡◌, ◌≢◌, ℕ, ℤ, Bool, true, false, List, [], ◌∷◌, ◌++◌, Option, Some, None, Result, Ok, Err, IfErr, IsOk, IsOkAnd, MatchResult, String, Vec, string_bytes, encode_utf8, ⊤}
 use Rattle.std.specs.Global.{Global}
 use Rattle.std.specs.Str.Parse.{ParsesUnsigned, ParsesSigned, ParsesBool}
 use mir.Syntax.{Width}
 use Rattle.whiteread.specs.Words.{Words}
-use Rattle.whiteread.specs.Reading.{Relation, Reading, Calls, no_call, one_call, some_calls}
+use Rattle.whiteread.specs.Reading.{Relation, Reading, no_call, one_call, some_calls}
 use Rattle.whiteread.specs.declared.stream.error.Error.{Error}
-use Rattle.whiteread.specs.declared.stream.error.Error.TheVariants.{TooShort, Leftovers, ParseError, IoError, NoMemory}
-use Rattle.whiteread.specs.declared.stream.error.Progress.TheVariants.{Nothing, Partial}
+use Rattle.whiteread.specs.declared.stream.error.Error.TheVariants.{TooShort, ParseError}
+use Rattle.whiteread.specs.declared.stream.error.Progress.TheVariants.{Nothing}
 
 -- One word is read by a rule: no word is TooShort(Nothing), and a word that the rule refuses is ParseError.
 abbrev pub ReadsWord : {T : Type 0} → (List ℕ → Result T Error → Type 0) → Relation T

@@ -19,17 +19,17 @@ answer_of (Err why) = Err why
 
 -- This is what a stream means.
 pub record Stream (S : Type 0) : Type 1 where
-  -- the words that it can still give, where they are told
+  -- These are the words that it can still give, where they are told.
   pub left : S → Option Words
-  -- a number that these words never pass
+  -- These words never pass this number.
   pub bound : S → ℕ
-  -- no word is left, and none comes any more
+  -- No word is left, and none comes any more.
   pub at_end : S → Type 0
-  -- the stream before a call of `next`, its answer, and the stream after it
+  -- A call of `next` relates the stream before it, its answer, and the stream after it.
   pub step : S → Answer → S → Type 0
-  -- how often each fault was met
+  -- Each fault was met so often.
   pub faults : S → IoFault → ℕ
-  -- whether a call of `next` may want memory
+  -- A call of `next` may want memory, or never does.
   pub allocates : Bool
 
 -- Told words are no more than the bound, and a stream at its end has none.

@@ -1,5 +1,5 @@
 -- What tuples read: their members in order.
-use Rattle.std.specs.Prelude.{◌≡◌, ◌+◌, ◌⊎◌, ◌||◌, Result, Ok, Err}
+use Rattle.std.specs.Prelude.{◌≡◌, ◌+◌, ◌⊎◌, ◌||◌, Ok, Err}
 use Rattle.whiteread.specs.Words.{Words}
 use Rattle.whiteread.specs.Reading.{Relation, Reading, some_calls}
 use Rattle.whiteread.specs.declared.stream.error.Error.{Error}

@@ -1,5 +1,5 @@
 -- std's `SplitWhitespace` as a stream of words.
-use Rattle.std.specs.Prelude.{◌≡◌, ℕ, List, [], ◌∷◌, length, Option, Some, None, Ok, Err, option_copied, if◌then◌else◌, false, ⊤}
+use Rattle.std.specs.Prelude.{ℕ, List, length, Option, Some, None, Ok, Err, if◌then◌else◌, false, ⊤}
 use Rattle.std.specs.Char.{is_not_whitespace}
 use Rattle.std.specs.Str.{NoCharPasses, is_utf8}
 use Rattle.std.specs.Str.Iter.{split_whitespace_rest}

@@ -1,5 +1,5 @@
 -- What reading a whole text answers, and what reading all words of a stream does.
-use Rattle.std.specs.Prelude.{ℕ, List, [], ◌∷◌, ◌⊎◌, Option, Some, None, Result, Ok, Err, IsTrue}
+use Rattle.std.specs.Prelude.{ℕ, List, [], ◌∷◌, ◌⊎◌, Some, None, Result, Ok, Err, IsTrue}
 use Rattle.whiteread.specs.Words.{Words}
 use Rattle.whiteread.specs.Stream.{Stream, NextCall}
 use Rattle.whiteread.specs.Reading.{Reading, ReadCall}
