@@ -9,6 +9,8 @@ pub mod Split
 pub mod White
 pub mod Whole
 pub mod ErrorText
+pub mod Rendered
+pub mod Located
 pub mod Laws
 pub mod ReadingProofs
 pub mod WordProofs

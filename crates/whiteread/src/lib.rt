@@ -6,6 +6,7 @@ ghost use Rattle.whiteread.specs.Whole.{ReadsWhole};
 
 pub mod adapters;
 pub mod laws;
+pub mod reader;
 pub mod stream;
 
 use std::alloc::Global;
