@@ -1,5 +1,6 @@
 -- An error with its place in the input, and what it prints.
 use Rattle.std.specs.Prelude.{◌≡◌, ℕ, Bool, true, false, not, ◌&&◌, ◌⊎◌, List, [], ◌++◌, Option, None, Some, replicate, codes, decimal, nat_lt, if◌then◌else◌}
+use Rattle.std.specs.Option.{unwrap_or}
 use Rattle.whiteread.specs.declared.stream.error.Error.{Error}
 use Rattle.whiteread.specs.declared.stream.error.Error.TheVariants.{TooShort, Leftovers, ParseError, IoError, NoMemory}
 use Rattle.whiteread.specs.declared.stream.error.Progress.TheVariants.{Nothing, Partial}
@@ -56,30 +57,24 @@ error_name (IoError TooLong) = codes "IoError(TooLong)"
 error_name (IoError CannotOpen) = codes "IoError(CannotOpen)"
 error_name NoMemory = codes "NoMemory"
 
--- a line of 79 times `~`
-abbrev pub rule : List ℕ
-rule = replicate 79 126 ++ codes "\n"
+-- 79 times `~`
+unfoldable pub rule : List ℕ
+rule = replicate 79 126
 
--- the row and the passed bytes, both 0 without a place
-abbrev pub row_and_column : Option (ℕ × ℕ) → ℕ × ℕ
-row_and_column (Some place) = place
-row_and_column None = (0, 0)
+-- the end of Debug's form: the rendered text, where there is one, between two rules, and the brace
+abbrev pub debug_end : Option (List ℕ) → List ℕ
+debug_end (Some text) = codes ", rendered:\n" ++ (rule ++ (codes "\n" ++ (text ++ (rule ++ codes "\n}"))))
+debug_end None = codes "}"
 
--- the rendered text in Debug's form, between two rules
-abbrev pub text_part : Option (List ℕ) → List ℕ
-text_part (Some text) = codes ", rendered:\n" ++ rule ++ text ++ rule
-text_part None = []
+-- what Debug prints of an error, a row, a number of passed bytes and a rendered text
+abbrev pub debug_form : Error → ℕ → ℕ → Option (List ℕ) → List ℕ
+debug_form error row passed text =
+    codes "Error { error: " ++ (error_name error ++ (codes ", row: " ++ (decimal row ++ (codes ", col: " ++ (decimal passed ++ debug_end text)))))
 
--- what Debug prints
+-- what Debug prints; without a place the row and the passed bytes are 0
 abbrev pub debug_text : Located → List ℕ
-debug_text e = codes "Error { error: " ++ error_name e.error ++ codes ", row: " ++ decimal (row_and_column e.place).0
-    ++ codes ", col: " ++ decimal (row_and_column e.place).1 ++ text_part e.rendered ++ codes "}"
-
--- the text, and the other where there is none
-abbrev pub text_or : List ℕ → Option (List ℕ) → List ℕ
-text_or other (Some text) = text
-text_or other None = other
+debug_text e = let place = unwrap_or e.place (0, 0) in debug_form e.error place.0 place.1 e.rendered
 
 -- what Display prints: the rendered text, and Debug's where there is none
 abbrev pub display_text : Located → List ℕ
-display_text e = text_or (debug_text e) e.rendered
+display_text e = unwrap_or e.rendered (debug_text e)

@@ -33,15 +33,14 @@ under text = map (λ c. min c 32) (chars text)
 -- the text of a line that is shown: the error, the row and the line, and below them the mark
 abbrev pub shown_text : Error → ℕ → ℕ → List ℕ → List ℕ
 shown_text error row passed text =
-    (error_text error ++ codes " at\n" ++ decimal row ++ codes " | " ++ text ++ codes "\n")
-    ++ (replicate (length (decimal row)) 32 ++ codes "   ")
-    ++ under (take (mark error passed text) text)
-    ++ codes "^\n"
+    error_text error ++ (codes " at\n" ++ (decimal row ++ (codes " | " ++ (text ++ (codes "\n"
+    ++ (replicate (length (decimal row)) 32 ++ (codes "   "
+    ++ (under (take (mark error passed text) text) ++ codes "^\n"))))))))
 
 -- the text of a line that is too long to be shown: the error, the row, and the column from 1
 abbrev pub long_text : Error → ℕ → ℕ → List ℕ
-long_text error row passed = error_text error ++ codes " at line " ++ decimal row ++ codes ", column " ++ decimal (passed + 1) ++ codes "\n"
+long_text error row passed = error_text error ++ (codes " at line " ++ (decimal row ++ (codes ", column " ++ (decimal (passed + 1) ++ codes "\n"))))
 
 -- the text of an error in a line of which so many bytes were passed: a line of at most 120 bytes is shown
-unfoldable pub rendered : Error → ℕ → ℕ → List ℕ → List ℕ
+abbrev pub rendered : Error → ℕ → ℕ → List ℕ → List ℕ
 rendered error row passed line = if nat_le (length (shown line)) 120 then shown_text error row passed (shown line) else long_text error row passed

@@ -4,8 +4,8 @@ ghost use Rattle.std.specs.Str.{IsCharBoundary};
 ghost use Rattle.whiteread.specs.declared.stream.error.Error.TheVariants.{TooShort, Leftovers, ParseError, IoError};
 ghost use Rattle.whiteread.specs.declared.stream.error.Progress.{Progress};
 ghost use Rattle.whiteread.specs.declared.stream.error.IoFault.{IoFault};
-ghost use Rattle.whiteread.specs.Located.{error_name, is_placed, IsLocated};
-ghost use Rattle.whiteread.specs.Rendered.{mark, rendered, shown, shown_text, under};
+ghost use Rattle.whiteread.specs.Located.{error_name, is_placed, IsLocated, rule};
+ghost use Rattle.whiteread.specs.Rendered.{last_of, long_text, mark, rendered, shown, shown_text, under};
 
 use crate::stream;
 use crate::stream::{IoFault, Progress};
@@ -15,9 +15,6 @@ use std::marker::Model;
 
 // The longest line that is shown, in bytes.
 const LONGEST_SHOWN: usize = 120;
-
-const RULE: &str =
-    "~~~~~~~~~~~~~~~~~~~~~~~~~~~~~~~~~~~~~~~~~~~~~~~~~~~~~~~~~~~~~~~~~~~~~~~~~~~~~~~";
 
 /// Why a value can't be read, with the place in the input, and a text that shows the line.
 #[derive(Drop)]
@@ -162,7 +159,7 @@ impl fmt::Debug for Error {
     fn fmt<W: fmt::Write>(&self, f: &mut fmt::Formatter<W>) -> fmt::Result {
         let name = name_of(&self.error);
         let (row, col) = self.place.unwrap_or((0, 0));
-        let rule = RULE;
+        let rule = rule_of_tildes();
         match &self.rendered {
             Some(text) => write!(
                 f,
@@ -202,6 +199,13 @@ fn name_of(error: &stream::Error) -> &'static str
     }
 }
 
+// What stands above and below the rendered text in Debug.
+fn rule_of_tildes() -> &'static str
+    ensures { result.now ≡ rule }
+{
+    "~~~~~~~~~~~~~~~~~~~~~~~~~~~~~~~~~~~~~~~~~~~~~~~~~~~~~~~~~~~~~~~~~~~~~~~~~~~~~~~"
+}
+
 // The text that shows where in the line the error stands.
 fn render(
     alloc: Global,
@@ -216,9 +220,21 @@ fn render(
     if text.len() <= LONGEST_SHOWN {
         render_shown(alloc, error, row, passed, text)
     } else {
-        let column = passed as u128 + 1;
-        format!(in alloc; "{error} at line {row}, column {column}\n")
+        render_long(alloc, error, row, passed)
     }
+}
+
+// The error, the row and the column, for a line that is too long to be shown.
+fn render_long(
+    alloc: Global,
+    error: &stream::Error,
+    row: u64,
+    passed: usize,
+) -> std::result::Result<String, AllocError>
+    ensures { IfOk result (λ out. string_bytes out ≡ long_text error.now row passed) }
+{
+    let column = passed as u128 + 1;
+    format!(in alloc; "{error} at line {row}, column {column}\n")
 }
 
 // The error, the row and the line, and below them the mark.
@@ -252,18 +268,22 @@ fn without_line_end(line: &str) -> &str
     &line[..end]
 }
 
+// The place, or one less for an error about a word that was passed.
+fn last_before(error: &stream::Error, place: usize) -> usize
+    ensures { result ≡ last_of error.now place }
+{
+    match error {
+        stream::Error::ParseError | stream::Error::Leftovers => place.saturating_sub(1),
+        stream::Error::TooShort(_) | stream::Error::IoError(_) | stream::Error::NoMemory => place,
+    }
+}
+
 // Where the mark stands, in bytes of the text.
 fn mark_at(error: &stream::Error, passed: usize, text: &str) -> usize
     ensures place { result ≡ mark error.now passed text.now }
     ensures boundary { IsCharBoundary text.now result }
 {
-    let reached = passed.min(text.len());
-    let place = if error.is_parse_error() || error.is_leftovers() {
-        reached.saturating_sub(1)
-    } else {
-        reached
-    };
-    text.floor_char_boundary(place)
+    text.floor_char_boundary(last_before(error, passed.min(text.len())))
 }
 
 fn push_spaces(count: usize, out: &mut String) -> std::result::Result<(), AllocError>
