@@ -9,13 +9,15 @@ pub mod Split
 pub mod White
 pub mod Whole
 pub mod ErrorText
+pub mod Rendered
+pub mod Located
 pub mod Lines
 pub mod Given
 pub mod Pending
 pub mod ReaderState
 pub mod LineCall
 pub mod ReaderWords
-pub mod Told
+pub mod ReaderCalls
 pub mod Laws
 pub mod ReadingProofs
 pub mod WordProofs
