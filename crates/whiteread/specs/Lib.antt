@@ -9,6 +9,8 @@ pub mod Split
 pub mod White
 pub mod Whole
 pub mod ErrorText
+pub mod Rendered
+pub mod Located
 pub mod Lines
 pub mod Given
 pub mod Pending
@@ -16,7 +18,7 @@ pub mod ReaderState
 pub mod LineCall
 pub mod LineSteps
 pub mod ReaderWords
-pub mod Told
+pub mod ReaderCalls
 pub mod Laws
 pub mod ReadingProofs
 pub mod WordProofs

@@ -12,18 +12,14 @@ pub mod stream;
 pub use reader::Reader;
 use std::alloc::Global;
 pub use stream::FromStream;
-use stream::{Error, SplitAsciiWhitespace, StrStream};
+use stream::{SplitAsciiWhitespace, read_whole};
 
 /// Reads a value from the whole text. It answers `Leftovers` where a word is left.
 pub fn parse_string<T: FromStream>(alloc: Global, s: &str) -> stream::Result<T>
     ensures { ReadsWhole T.reading (words s.now) result }
 {
     let mut words = SplitAsciiWhitespace::new(s);
-    let value = T::read(alloc, &mut words)?;
-    if StrStream::next(&mut words)?.is_some() {
-        return Err(Error::Leftovers);
-    }
-    Ok(value)
+    read_whole(alloc, &mut words)
 }
 
 #[cfg(test)]

@@ -1,9 +1,11 @@
 // Lines of a source, read in pieces, and the values that are read from them.
-ghost use Rattle.std.specs.Prelude.{◌≡◌, ◌≤◌, ◌↔◌, [], true, false, IsTrue, length, string_bytes, IsCharBoundary};
+ghost use Rattle.std.specs.Prelude.{◌≡◌, ◌≤◌, ◌↔◌, [], true, false, IsTrue, IfErr, length, string_bytes, IsCharBoundary};
 ghost use Rattle.whiteread.specs.Lines.{HasNoFeed};
 ghost use Rattle.whiteread.specs.Pending.{pending_bytes};
 
 mod error;
+#[cfg(test)]
+mod error_tests;
 mod pending;
 
 use crate::stream;
@@ -41,7 +43,7 @@ impl<B: Source> Reader<B> {
     ghost use Rattle.whiteread.specs.ReaderState.{reader_source, reader_limit, reader_taken, reader_past, reader_waiting, reader_line, reader_passed, reader_row, ShowsSame};
     ghost use Rattle.whiteread.specs.LineCall.{LineCall};
     ghost use Rattle.whiteread.specs.LineSteps.{AwaitCall, PieceCall, TakeCall};
-    ghost use Rattle.whiteread.specs.Told.{inner_answer};
+    ghost use Rattle.whiteread.specs.Located.{inner_answer, unplaced};
 
     /// A reader over the source, with no line yet, that takes at most `limit` bytes. It takes no memory.
     pub fn new(alloc: Global, buf: B, limit: u64) -> Reader<B>
@@ -73,6 +75,7 @@ impl<B: Source> Reader<B> {
     /// It refuses by `IoError` and `NoMemory` alone.
     pub fn advance_line(&mut self) -> Result<bool>
         ensures line { LineCall B.rest B.given B.faults B.reference self.old (inner_answer result) self.new }
+        ensures no_place { IfErr result (λ error. error ≡ unplaced error.error) }
     {
         match self.read_line() {
             Ok(found) => Ok(found),

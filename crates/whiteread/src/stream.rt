@@ -11,11 +11,13 @@ mod scalars;
 mod split;
 mod tuples;
 mod white;
+mod whole;
 
 pub use error::{Error, IoFault, Progress, Result};
 pub use split::SplitAsciiWhitespace;
 use std::alloc::Global;
 pub(crate) use tuples::read_later;
+pub(crate) use whole::read_whole;
 
 /// A stream of words. `next` lends the next word, or answers None at the end.
 pub trait StrStream {
