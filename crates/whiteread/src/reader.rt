@@ -6,6 +6,8 @@ ghost use Rattle.whiteread.specs.Pending.{pending_bytes};
 mod error;
 #[cfg(test)]
 mod error_tests;
+#[cfg(test)]
+mod line_tests;
 mod pending;
 
 use crate::stream;
