@@ -1,7 +1,8 @@
 -- Laws of templates, each carried by a function of the crate with an empty body.
-use Rattle.std.specs.Prelude.{◌≡◌, ◌≤◌, ◌+◌, ℕ, Bool, true, false, List, [], ◌∷◌, length, chars, IsSome, IfSome, IsUtf8, Option, Some, Ok, ⊤}
+use Rattle.std.specs.Prelude.{◌≡◌, ◌↔◌, ◌≤◌, ◌+◌, ℕ, Bool, true, false, List, [], ◌∷◌, length, chars, IsSome, IfSome, IsUtf8, Option, Some, Ok, ⊤}
 use Rattle.std.specs.Char.{IsScalar}
 use Rattle.formatx.specs.Segments.{segments_of}
+use Rattle.formatx.specs.Grammar.{Spells}
 use Rattle.formatx.specs.Values.{Meaning}
 use Rattle.formatx.specs.Field.{field_text}
 use Rattle.formatx.specs.Text.{Scene, formatted, precision_takes, segment_takes, value_at}
@@ -36,3 +37,11 @@ FinishesAgree = (scene : Scene) (segments : List Segment) → segments_of scene.
 abbrev pub FieldsAreWide : Type 0
 FieldsAreWide = (spec : FormatSpec) (m : Meaning) (width : ℕ) (precision : Option ℕ) → spec.format_type ≡ Display → IfSome spec.fill IsScalar
     → IsUtf8 m.display → ¬ (m.display_shape ≡ Raw) → width ≤ length (chars (field_text spec m (Some width) precision))
+
+-- a template is read into segments exactly where its text spells them
+abbrev pub ReadsTheGrammar : Type 0
+ReadsTheGrammar = (source : List ℕ) (segments : List Segment) → IsUtf8 source → (segments_of source ≡ Ok segments ↔ Spells source segments)
+
+-- a text spells the segments of one template at most
+abbrev pub HasOneTree : Type 0
+HasOneTree = (source : List ℕ) (these those : List Segment) → IsUtf8 source → Spells source these → Spells source those → these ≡ those

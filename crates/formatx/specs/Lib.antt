@@ -3,6 +3,7 @@ pub mod Words
 pub mod Options
 pub mod Segments
 pub mod Spans
+pub mod Grammar
 pub mod Values
 pub mod Field
 pub mod Text

@@ -1,5 +1,5 @@
 // Laws of templates: each function has an empty body, and its clause is the law.
-ghost use Rattle.formatx.specs.Laws.{FieldsAreWide, FinishesAgree};
+ghost use Rattle.formatx.specs.Laws.{FieldsAreWide, FinishesAgree, HasOneTree, ReadsTheGrammar};
 
 /// Strict and lenient printing agree where no placeholder lacks its value.
 pub fn finishes_agree()
@@ -9,4 +9,14 @@ pub fn finishes_agree()
 /// A printed field whose shape isn't raw has at least its width in characters.
 pub fn fields_are_wide()
     ensures { FieldsAreWide }
+{}
+
+/// A template is read into segments exactly where its text spells them.
+pub fn reads_the_grammar()
+    ensures { ReadsTheGrammar }
+{}
+
+/// A text spells the segments of one template at most.
+pub fn one_tree()
+    ensures { HasOneTree }
 {}
