@@ -166,6 +166,10 @@ pub record Spells (source : List ℕ) (segments : List Segment) : Type 0 where
   pub spelled : SpellsAt 0 segments source
   pub apart : AreApart segments
 
+-- the source is a template of some segments
+abbrev pub IsTemplate : List ℕ → Type 0
+IsTemplate source = (segments : List Segment) × Spells source segments
+
 -- the source is no template
 abbrev pub IsNoTemplate : List ℕ → Type 0
 IsNoTemplate source = (segments : List Segment) → Spells source segments → ⊥

@@ -1,9 +1,14 @@
 // Laws of templates: each function has an empty body, and its clause is the law.
-ghost use Rattle.formatx.specs.Laws.{FieldsAreWide, FinishesAgree, HasOneTree, ReadsTheGrammar};
+ghost use Rattle.formatx.specs.Laws.{FieldsAreWide, FinishesAgree, HasOneTree, MissingIsEmpty, ReadsTheGrammar};
 
 /// Strict and lenient printing agree where no placeholder lacks its value.
 pub fn finishes_agree()
     ensures { FinishesAgree }
+{}
+
+/// A lenient finish has the empty text in place of a value that isn't there, and a strict one refuses it.
+pub fn missing_is_empty()
+    ensures { MissingIsEmpty }
 {}
 
 /// A printed field whose shape isn't raw has at least its width in characters.
