@@ -1,5 +1,5 @@
 -- What is read is spelled by the text that was read: from the options up to the template.
-use Rattle.std.proofs.Common.{◌≡◌, ◌↔◌, ◌==◌, ℕ, zero, suc, ◌+◌, ◌<◌, ◌≤◌, ◌⊎◌, inl, inr, Bool, true, false, ◌&&◌, ◌||◌, List, [], ◌∷◌, ◌++◌, length, take, drop, get_or, Result, Ok, Err, codes, slice_index, refl, sym, ap, ◌∙◌, subst, arith, append_assoc, if◌then◌else◌}
+use Rattle.std.proofs.Common.{◌≡◌, ◌↔◌, ◌==◌, ℕ, zero, suc, ◌+◌, ◌<◌, ◌≤◌, inl, inr, Bool, true, false, ◌&&◌, ◌||◌, List, [], ◌∷◌, ◌++◌, length, take, drop, get_or, Result, Ok, Err, codes, slice_index, refl, sym, ap, ◌∙◌, subst, arith, append_assoc, if◌then◌else◌}
 use Rattle.std.specs.Prelude.{⊤}
 use Rattle.std.specs.Char.{is_ascii_digit}
 use Rattle.std.specs.List.{concat, list_all, prefix_len}
@@ -11,14 +11,12 @@ use Rattle.std.proofs.lemmas.List.{append-nil, get_or-drop, length-append, lengt
 use Rattle.std.proofs.lemmas.List.Folds.{length-prefix_len}
 use Rattle.std.proofs.lemmas.List.Sums.{prefix_len_stops}
 use Rattle.std.proofs.lemmas.Str.{IsUtf8-drop, IsCharBoundary-after_ascii}
-use Rattle.formatx.specs.Fault.{Fault, ◌>>=◌, Tells, span}
+use Rattle.formatx.specs.Fault.{Fault, ◌>>=◌, span}
 use Rattle.formatx.specs.Words.{ends_at, has, is_plain, is_word, is_word_start, run_end}
 use Rattle.formatx.specs.Options.{alternate_at, count_at, fill_align_at, number_between, precision_at, sign_at, type_at, zero_at}
 use Rattle.formatx.specs.Segments.{argument_at, close_at, closed_at, follows_argument, no_options, open_at, options_at, placeholder_at, segment_at, segments_from, segments_of, spec_at}
-use Rattle.formatx.specs.Grammar.{IsArgument, IsWidth, IsPrecision, IsOptions, IsSpec, IsPlaceholder, IsSegment, SpellsAt, AreApart, Spells, IsNoTemplate, fill_mark, align_mark, sign_mark, alternate_mark, zero_mark, type_mark, has_zero_flag}
+use Rattle.formatx.specs.Grammar.{IsArgument, IsWidth, IsPrecision, IsOptions, IsSpec, IsPlaceholder, IsSegment, SpellsAt, AreApart, Spells, fill_mark, align_mark, sign_mark, alternate_mark, zero_mark, type_mark, has_zero_flag}
 use Rattle.formatx.specs.Laws.{ReadsTheGrammar, HasOneTree}
-use Rattle.formatx.specs.declared.error.Error.{Error}
-use Rattle.formatx.specs.declared.error.Error.TheVariants.{Parse, MissingArgument, UnsupportedTrait, NoMemory}
 use Rattle.formatx.specs.declared.ast.Span.{Span}
 use Rattle.formatx.specs.declared.ast.Argument.{Argument}
 use Rattle.formatx.specs.declared.ast.Argument.TheVariants as Of
@@ -377,10 +375,3 @@ reads_the_grammar source segments utf8 = (sound source segments utf8, complete s
 
 pub one_tree : HasOneTree
 one_tree source these those utf8 a b = ok_same these those (segments_of source) (complete source these utf8 a) (complete source those utf8 b)
-
--- a fault says that the source spells nothing
-pub refused : (source : List ℕ) (e : Error) → IsUtf8 source → Tells e (segments_of source) → (e ≡ NoMemory) ⊎ IsNoTemplate source
-refused source (Parse s message) utf8 told = inr (λ ss spells. err_ok _ ss (sym told ∙ complete source ss utf8 spells))
-refused source (MissingArgument name s) utf8 told = inr (λ ss spells. err_ok _ ss (sym told ∙ complete source ss utf8 spells))
-refused source (UnsupportedTrait t s) utf8 told = inr (λ ss spells. err_ok _ ss (sym told ∙ complete source ss utf8 spells))
-refused source NoMemory utf8 told = inl refl

@@ -7,6 +7,7 @@ pub mod GrammarFill
 pub mod GrammarComplete
 pub mod GrammarSpelled
 pub mod GrammarSound
+pub mod GrammarFaults
 pub mod PrintLemmas
 pub mod CharLemmas
 pub mod LawLemmas

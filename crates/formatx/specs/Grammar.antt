@@ -7,6 +7,8 @@ use Rattle.std.specs.Str.{byte}
 use Rattle.formatx.specs.Fault.{span}
 use Rattle.formatx.specs.Words.{is_plain, is_type_start, is_word, is_word_start, usize_of}
 use Rattle.formatx.specs.Segments.{no_options}
+use Rattle.formatx.specs.declared.error.Error.{Error}
+use Rattle.formatx.specs.declared.error.Error.TheVariants.{Parse, MissingArgument, UnsupportedTrait, NoMemory}
 use Rattle.formatx.specs.declared.ast.Span.{Span}
 use Rattle.formatx.specs.declared.ast.Align.{Align}
 use Rattle.formatx.specs.declared.ast.Align.TheVariants.{Left, Center, Right}
@@ -173,3 +175,10 @@ IsTemplate source = (segments : List Segment) × Spells source segments
 -- the source is no template
 abbrev pub IsNoTemplate : List ℕ → Type 0
 IsNoTemplate source = (segments : List Segment) → Spells source segments → ⊥
+
+-- the error that reading may answer: the source is no template, or there was no memory
+abbrev pub Refuses : List ℕ → Error → Type 0
+Refuses source (Parse s message) = IsNoTemplate source
+Refuses source (MissingArgument name s) = ⊥
+Refuses source (UnsupportedTrait t s) = ⊥
+Refuses source NoMemory = ⊤

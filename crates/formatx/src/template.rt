@@ -1,8 +1,8 @@
 // A template with its source: parsed once, printed many times.
-ghost use Rattle.std.specs.Prelude.{◌≡◌, ◌∷◌, ◌↔◌, ◌⊎◌, [], Contains, IfErr, IfOk, IsOk, IsTrue, MatchOption, OnOk, Ok, map, string_bytes};
+ghost use Rattle.std.specs.Prelude.{◌≡◌, ◌∷◌, ◌↔◌, [], Contains, IfErr, IfOk, IsOk, IsTrue, MatchOption, OnOk, Ok, map, string_bytes};
 ghost use Rattle.formatx.specs.Fault.{Tells};
 ghost use Rattle.formatx.specs.Segments.{segments_of};
-ghost use Rattle.formatx.specs.Grammar.{IsNoTemplate, IsTemplate};
+ghost use Rattle.formatx.specs.Grammar.{IsTemplate, Refuses};
 ghost use Rattle.formatx.specs.Spans.{Fits, SegmentFits};
 ghost use Rattle.formatx.specs.Templates.{names_in, names_of, segment_names};
 ghost use Rattle.formatx.specs.Text.{formatted, scene_over};
@@ -109,7 +109,7 @@ impl Template {
     pub fn new(alloc: Global, source: &str) -> Result<Template, Error>
         ensures ok { IfOk result (λ t. t ≡ source.now) }
         ensures spells { OnOk result (IsTemplate source.now) }
-        ensures outside { IfErr result (λ e. (e ≡ Error.NoMemory) ⊎ IsNoTemplate source.now) }
+        ensures outside { IfErr result (Refuses source.now) }
 
         // The same as a function, which also says which fault is the first.
         ensures parsed { OnOk result (IsOk (segments_of source.now)) }

@@ -2,7 +2,8 @@
 use Rattle.std.proofs.Common.{◌≡◌, ◌<◌, ◌≤◌, ◌∷◌, [], ◌++◌, length, arith, rules}
 use Rattle.std.proofs.lemmas.Bool.Decides.{nat_tests}
 use Rattle.formatx.proofs.ReadLemmas.{read_nothing, read_segment, read_fault, read_all, tiled}
-use Rattle.formatx.proofs.GrammarSound.{refused, sound}
+use Rattle.formatx.proofs.GrammarFaults.{refused}
+use Rattle.formatx.proofs.GrammarSound.{sound}
 use Rattle.formatx.proofs.parser.parse.Goals as goal
 
 pub segments-init : goal.segments-init
