@@ -14,7 +14,8 @@ use Rattle.std.proofs.lemmas.Str.{IsUtf8-drop, IsCharBoundary-after_ascii}
 use Rattle.formatx.specs.Fault.{Fault, ◌>>=◌, span}
 use Rattle.formatx.specs.Words.{ends_at, has, is_plain, is_word, is_word_start, run_end}
 use Rattle.formatx.specs.Options.{alternate_at, count_at, fill_align_at, number_between, precision_at, sign_at, type_at, zero_at}
-use Rattle.formatx.specs.Segments.{argument_at, close_at, closed_at, follows_argument, no_options, open_at, options_at, placeholder_at, segment_at, segments_from, segments_of, spec_at}
+use Rattle.formatx.specs.Segments.{argument_at, close_at, closed_at, follows_argument, open_at, options_at, placeholder_at, segment_at, segments_from, segments_of, spec_at}
+use Rattle.formatx.specs.Spans.{no_options}
 use Rattle.formatx.specs.Grammar.{IsArgument, IsWidth, IsPrecision, IsOptions, IsSpec, IsPlaceholder, IsSegment, SpellsAt, AreApart, Spells, fill_mark, align_mark, sign_mark, alternate_mark, zero_mark, type_mark, has_zero_flag}
 use Rattle.formatx.specs.Laws.{ReadsTheGrammar, HasOneTree}
 use Rattle.formatx.specs.declared.ast.Span.{Span}

@@ -2,7 +2,10 @@
 use Rattle.std.proofs.Common.{◌≡◌, ℕ, ◌+◌, true, false, List, [], ◌∷◌, Option, Some, None, Result, Ok, Err, refl, ap, IsSome}
 use Rattle.formatx.specs.Fault.{Fault, ◌>>=◌}
 use Rattle.formatx.specs.Values.{Meaning}
-use Rattle.formatx.specs.Text.{Scene, argument_text, precision_of, precision_takes, rendered, segment_takes, segment_text, value_at, whole}
+use Rattle.formatx.specs.Scene.{Scene}
+use Rattle.formatx.specs.Counts.{precision_of}
+use Rattle.formatx.specs.Arguments.{precision_takes, value_at}
+use Rattle.formatx.specs.Text.{argument_text, rendered, segment_takes, segment_text, whole}
 use Rattle.formatx.specs.Laws.{AllHaveValues, FinishesAgree, HasValue, MissingIsEmpty, with_strict}
 use Rattle.formatx.specs.declared.ast.Placeholder.{Placeholder}
 use Rattle.formatx.specs.declared.ast.Segment.{Segment}

@@ -6,7 +6,7 @@ use Rattle.std.specs.List.{concat, list_all}
 use Rattle.std.specs.Str.{byte}
 use Rattle.formatx.specs.Fault.{span}
 use Rattle.formatx.specs.Words.{is_plain, is_type_start, is_word, is_word_start, usize_of}
-use Rattle.formatx.specs.Segments.{no_options}
+use Rattle.formatx.specs.Spans.{no_options}
 use Rattle.formatx.specs.declared.error.Error.{Error}
 use Rattle.formatx.specs.declared.error.Error.TheVariants.{Parse, MissingArgument, UnsupportedTrait, NoMemory}
 use Rattle.formatx.specs.declared.ast.Span.{Span}

@@ -6,7 +6,10 @@ use Rattle.formatx.specs.Segments.{segments_of}
 use Rattle.formatx.specs.Grammar.{Spells}
 use Rattle.formatx.specs.Values.{Meaning}
 use Rattle.formatx.specs.Field.{field_text}
-use Rattle.formatx.specs.Text.{Scene, argument_name, formatted, precision_of, precision_takes, segment_takes, segment_text, value_at}
+use Rattle.formatx.specs.Scene.{Scene}
+use Rattle.formatx.specs.Counts.{precision_of}
+use Rattle.formatx.specs.Arguments.{argument_name, precision_takes, value_at}
+use Rattle.formatx.specs.Text.{formatted, segment_takes, segment_text}
 use Rattle.formatx.specs.declared.ast.FormatSpec.{FormatSpec}
 use Rattle.formatx.specs.declared.ast.FormatType.TheVariants.{Display}
 use Rattle.formatx.specs.declared.ast.Placeholder.{Placeholder}

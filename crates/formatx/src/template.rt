@@ -5,7 +5,8 @@ ghost use Rattle.formatx.specs.Segments.{segments_of};
 ghost use Rattle.formatx.specs.Grammar.{IsTemplate, Refuses};
 ghost use Rattle.formatx.specs.Spans.{Fits, SegmentFits};
 ghost use Rattle.formatx.specs.Templates.{names_in, names_of, segment_names};
-ghost use Rattle.formatx.specs.Text.{formatted, scene_over};
+ghost use Rattle.formatx.specs.Scene.{scene_over};
+ghost use Rattle.formatx.specs.Text.{formatted};
 
 use crate::ast::{Argument, FormatString, Segment};
 use crate::error::Error;
