@@ -29,9 +29,13 @@ has_place error row = is_placed error && nat_lt 0 row
 abbrev pub place_of : Error → ℕ → ℕ → Option (ℕ × ℕ)
 place_of error row passed = if has_place error row then Some (row, passed) else None
 
--- the rendered text, where there is a place and the error isn't asked to be cheap
+-- a text is rendered: there is a place, and the error isn't asked to be cheap
+abbrev pub has_text : Error → ℕ → Bool → Bool
+has_text error row cheap = has_place error row && not cheap
+
+-- the rendered text, where one is rendered
 abbrev pub text_of : Error → ℕ → ℕ → List ℕ → Bool → Option (List ℕ)
-text_of error row passed line cheap = if has_place error row && not cheap then Some (rendered error row passed line) else None
+text_of error row passed line cheap = if has_text error row cheap then Some (rendered error row passed line) else None
 
 -- the error with its place and its text
 abbrev pub located : Error → ℕ → ℕ → List ℕ → Bool → Located
@@ -41,9 +45,10 @@ located error row passed line cheap = record { error = error; place = place_of e
 abbrev pub out_of_memory : Located
 out_of_memory = record { error = NoMemory; place = None; rendered = None }
 
--- the result is the error with its place and its text, or memory for the text was refused
+-- the result is the error with its place and its text, or a text is rendered and there was no memory for it
 abbrev pub IsLocated : Error → ℕ → ℕ → List ℕ → Bool → Located → Type 0
-IsLocated error row passed line cheap result = (result ≡ located error row passed line cheap) ⊎ (result ≡ out_of_memory)
+IsLocated error row passed line cheap result =
+    (result ≡ located error row passed line cheap) ⊎ ((has_text error row cheap ≡ true) × (result ≡ out_of_memory))
 
 -- the name of each error, as Rust's Debug writes it
 abbrev pub error_name : Error → List ℕ
