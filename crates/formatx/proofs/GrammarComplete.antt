@@ -50,8 +50,8 @@ read_options source i spec text rest utf8 e o =
     let c0 = closes_after L t1 (alternate_options spec.alternate) c1 in
     let cs = closes_after S t0 (sign_options spec.sign) c0 in
     let whole : drop i source ≡ F ++ (A ++ (S ++ t0)) =
-        e ∙ ap (λ (t : List ℕ). t ++ t5) o.whole ∙ concat_join (o.front ∷ Z ∷ W ∷ P ∷ T ∷ []) t5
-        ∙ ap (λ (t : List ℕ). t ++ t1) o.marks ∙ concat_join (F ∷ A ∷ S ∷ L ∷ []) t1 in
+    e ∙ ap (λ (t : List ℕ). t ++ t5) o.whole ∙ concat_join (o.front ∷ Z ∷ W ∷ P ∷ T ∷ []) t5
+    ∙ ap (λ (t : List ℕ). t ++ t1) o.marks ∙ concat_join (F ∷ A ∷ S ∷ L ∷ []) t1 in
     let front_long : length o.front ≡ length F + length A + length S + length L = ap length o.marks ∙ long_of F A S L in
     let text_long : length text ≡ length o.front + length Z + length W + length P + length T = ap length o.whole ∙ long_of_five o.front Z W P T in
     let d1 = move source (i + length F) A (S ++ t0) (move source i F (A ++ (S ++ t0)) whole) in
@@ -96,6 +96,7 @@ read_options source i spec text rest utf8 e o =
         let h3 = length-append c (d ++ []) in
         let h4 = length-append d [] in
         omega (arith, h1, h2, h3, h4)
+
     long_of_five : (a b c d f : List ℕ) → length (concat (a ∷ b ∷ c ∷ d ∷ f ∷ [])) ≡ length a + length b + length c + length d + length f
     long_of_five a b c d f =
         let h0 = length-append a (b ++ (c ++ (d ++ (f ++ [])))) in
@@ -213,10 +214,10 @@ read_placeholder source i p text rest utf8 e h =
     let k = i + 1 + length A + length S in
     let close = byte_here source k t3 d3 in
     let long : length text ≡ 1 + length A + length S + 1 =
-        let h0 = length-append A (S ++ (125 ∷ [])) in
-        let h1 = length-append S (125 ∷ []) in
-        let all : length text ≡ length (concat ((123 ∷ []) ∷ A ∷ S ∷ (125 ∷ []) ∷ [])) = ap length h.whole in
-        omega (arith, h0, h1, all) in
+    let h0 = length-append A (S ++ (125 ∷ [])) in
+    let h1 = length-append S (125 ∷ []) in
+    let all : length text ≡ length (concat ((123 ∷ []) ∷ A ∷ S ∷ (125 ∷ []) ∷ [])) = ap length h.whole in
+    omega (arith, h0, h1, all) in
     let end : i + length text ≡ k + 1 = omega (arith, long) in
     let place : p.span ≡ span i (k + 1) = h.is_span ∙ ap (span i) end in
     rw (b, once, r1, r2, close, end, ← place) refl

@@ -91,7 +91,7 @@ options_spelled source i r utf8 e closed =
     let rest = drop (i7 + 1) source in
     let text = front ++ Z ++ W ++ P ++ T in
     let tail : drop i3 source ≡ join (Z ∷ W ∷ P ∷ T ∷ []) (125 ∷ rest) =
-        s4.whole ∙ ap (λ (t : List ℕ). Z ++ t) (s5.1.whole ∙ ap (λ (t : List ℕ). W ++ t) (s6.1.whole ∙ ap (λ (t : List ℕ). P ++ t) (s7.whole ∙ ap (λ (t : List ℕ). T ++ t) brace.whole))) in
+    s4.whole ∙ ap (λ (t : List ℕ). Z ++ t) (s5.1.whole ∙ ap (λ (t : List ℕ). W ++ t) (s6.1.whole ∙ ap (λ (t : List ℕ). P ++ t) (s7.whole ∙ ap (λ (t : List ℕ). T ++ t) brace.whole))) in
     let xs = concat (Z ∷ W ∷ P ∷ T ∷ []) in
     let there : drop i3 source ≡ xs ++ 125 ∷ rest = tail ∙ sym (concat_join (Z ∷ W ∷ P ∷ T ∷ []) (125 ∷ rest)) in
     let flag : zeroed.0 ≡ has_zero_flag (xs ++ 125 ∷ rest) = flag_of (has_zero_flag (xs ++ 125 ∷ rest)) i3 zeroed (zero_test source i3 xs rest there) in
@@ -101,15 +101,15 @@ options_spelled source i r utf8 e closed =
     let p4 : i4 ≡ i + length front + length Z = omega (arith, l4, t4.end) in
     let p5 : i5 ≡ i + length front + length Z + length W = omega (arith, l4, l5, t5.end) in
     let options : IsOptions i spec text = record {
-        front = front;
-        width = W;
-        precision = P;
-        marks = left4 (fill_mark filled.0) (align_mark filled.1) S L;
-        whole = left5 front Z W P T;
-        can_fill = s1.1;
-        is_zero = flag ∙ seen;
-        is_width = subst (λ (k : ℕ). IsWidth k b5.value.0 W) p4 s5.2;
-        is_precision = subst (λ (k : ℕ). IsPrecision k b6.value.0 P) p5 s6.2;
+      front = front;
+      width = W;
+      precision = P;
+      marks = left4 (fill_mark filled.0) (align_mark filled.1) S L;
+      whole = left5 front Z W P T;
+      can_fill = s1.1;
+      is_zero = flag ∙ seen;
+      is_width = subst (λ (k : ℕ). IsWidth k b5.value.0 W) p4 s5.2;
+      is_precision = subst (λ (k : ℕ). IsPrecision k b6.value.0 P) p5 s6.2;
     } in
     subst (IsOptioned source i) same (text, t7, options)
 
@@ -130,6 +130,7 @@ argument_spelled source i r e = by_end (ends_at source i) refl e
         let same : (Of.Named (span i (run_end is_word source i)), run_end is_word source i) ≡ r = ok_same _ r _ refl (rw (q0, q1, q2, q) at e) in
         subst (IsNamed source i) same (name.0, name.1, name.2)
     by_name q0 q1 q2 false q e = absurd (err_ok _ r (rw (q0, q1, q2, q) at e))
+
     by_digit : ends_at source i ≡ false → follows_argument source i ≡ false → (b : Bool) → (is_ascii_digit (slice_index source i) && follows_argument source (run_end is_ascii_digit source i)) ≡ b → argument_at source i ≡ Ok r → IsNamed source i r
     by_digit q0 q1 true q e =
         let b = bind_ok (number_between source i (run_end is_ascii_digit source i) (codes "invalid positional argument: ")) (λ n. Ok (Of.Positional n, run_end is_ascii_digit source i)) r (rw (q0, q1, q) at e) in
@@ -137,11 +138,13 @@ argument_spelled source i r e = by_end (ends_at source i) refl e
         let same : (Of.Positional b.value, run_end is_ascii_digit source i) ≡ r = ok_same _ r _ refl b.second in
         subst (IsNamed source i) same (n.0, n.1, n.2)
     by_digit q0 q1 false q e = by_name q0 q1 q (is_word_start (slice_index source i) && follows_argument source (run_end is_word source i)) refl e
+
     by_follow : ends_at source i ≡ false → (b : Bool) → follows_argument source i ≡ b → argument_at source i ≡ Ok r → IsNamed source i r
     by_follow q0 true q e =
         let same : (Of.Implicit, i) ≡ r = ok_same _ r _ refl (rw (q0, q) at e) in
         subst (IsNamed source i) same ([], takes_none source i, refl)
     by_follow q0 false q e = by_digit q0 q (is_ascii_digit (slice_index source i) && follows_argument source (run_end is_ascii_digit source i)) refl e
+
     by_end : (b : Bool) → ends_at source i ≡ b → argument_at source i ≡ Ok r → IsNamed source i r
     by_end true q e = absurd (err_ok _ r (rw q at e))
     by_end false q e = by_follow q (follows_argument source i) refl e
@@ -190,12 +193,12 @@ closed_spelled source i a (spec, k) r utf8 brace named e f = by_close (has sourc
         let p : Placeholder = record { argument = a.0; spec = spec; span = span i (k + 1) } in
         let same : (Placed p, k + 1) ≡ r = ok_same _ r _ refl (rw q at f) in
         let placed : IsPlaceholder i p text = record {
-            argument = A;
-            spec = S;
-            whole = left4 (123 ∷ []) A S (125 ∷ []);
-            is_argument = named.2;
-            is_spec = subst (λ (n : ℕ). IsSpec n spec S) named.1.end specified.2;
-            is_span = ap (span i) t4.end;
+          argument = A;
+          spec = S;
+          whole = left4 (123 ∷ []) A S (125 ∷ []);
+          is_argument = named.2;
+          is_spec = subst (λ (n : ℕ). IsSpec n spec S) named.1.end specified.2;
+          is_span = ap (span i) t4.end;
         } in
         subst (IsCut source i) same (text, t4, placed)
     by_close false q f = absurd (err_ok _ r (rw q at f))
@@ -234,11 +237,13 @@ segment_spelled source i r utf8 inside e = by_open (has source i 123) refl e
         let same : (EscapedClose, i + 2) ≡ r = ok_same _ r _ refl (rw (p, q, s) at e) in
         subst (IsCut source i) same (125 ∷ 125 ∷ [], both, refl)
     by_second_close p q false s e = absurd (err_ok _ r (rw (p, q, s) at e))
+
     by_close : has source i 123 ≡ false → (b : Bool) → has source i 125 ≡ b → segment_at source i ≡ Ok r → IsCut source i r
     by_close p true q e = by_second_close p q (has source (i + 1) 125) refl e
     by_close p false q e =
         let same : (Literal (span i (run_end is_plain source i)), run_end is_plain source i) ≡ r = ok_same _ r _ refl (rw (p, q) at e) in
         subst (IsCut source i) same (literal_spelled source i inside (plain_here (slice_index source i) p q))
+
     by_second_open : has source i 123 ≡ true → (b : Bool) → has source (i + 1) 123 ≡ b → segment_at source i ≡ Ok r → IsCut source i r
     by_second_open p true q e =
         let first = takes_byte source i 123 p (omega arith) in
@@ -246,6 +251,7 @@ segment_spelled source i r utf8 inside e = by_open (has source i 123) refl e
         let same : (EscapedOpen, i + 2) ≡ r = ok_same _ r _ refl (rw (p, q) at e) in
         subst (IsCut source i) same (123 ∷ 123 ∷ [], both, refl)
     by_second_open p false q e = placeholder_spelled source i r utf8 p (rw (p, q) at e)
+
     by_open : (b : Bool) → has source i 123 ≡ b → segment_at source i ≡ Ok r → IsCut source i r
     by_open true q e = by_second_open q (has source (i + 1) 123) refl e
     by_open false q e = by_close q (has source i 125) refl e
@@ -291,16 +297,19 @@ segment_longest source i r e = by_open (has source i 123) refl e
         let same : (EscapedClose, i + 2) ≡ r = ok_same _ r _ refl (rw (p, q, s) at e) in
         subst (IsLongest source) same tt
     by_second_close p q false s e = absurd (err_ok _ r (rw (p, q, s) at e))
+
     by_close : has source i 123 ≡ false → (b : Bool) → has source i 125 ≡ b → segment_at source i ≡ Ok r → IsLongest source r
     by_close p true q e = by_second_close p q (has source (i + 1) 125) refl e
     by_close p false q e =
         let same : (Literal (span i (run_end is_plain source i)), run_end is_plain source i) ≡ r = ok_same _ r _ refl (rw (p, q) at e) in
         subst (IsLongest source) same (run_stops is_plain source i)
+
     by_second_open : has source i 123 ≡ true → (b : Bool) → has source (i + 1) 123 ≡ b → segment_at source i ≡ Ok r → IsLongest source r
     by_second_open p true q e =
         let same : (EscapedOpen, i + 2) ≡ r = ok_same _ r _ refl (rw (p, q) at e) in
         subst (IsLongest source) same tt
     by_second_open p false q e = placeholder_longest source i r (rw (p, q) at e)
+
     by_open : (b : Bool) → has source i 123 ≡ b → segment_at source i ≡ Ok r → IsLongest source r
     by_open true q e = by_second_open q (has source (i + 1) 123) refl e
     by_open false q e = by_close q (has source i 125) refl e

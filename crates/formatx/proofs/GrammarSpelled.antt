@@ -108,13 +108,14 @@ fill_spelled source i utf8 = by_end (ends_at source i || has source i 125) refl
         let cut = first_char (drop i source) utf8 (omega (arith, long)) in
         let size = length-encode c in
         let first : Takes source i (i + len_utf8 c) (encode_utf8 c) = record {
-            whole = cut.0 ∙ ap (λ (t : List ℕ). encode_utf8 c ++ t) (drop_drop i (len_utf8 c) source);
-            end = omega (arith, size);
+          whole = cut.0 ∙ ap (λ (t : List ℕ). encode_utf8 c ++ t) (drop_drop i (len_utf8 c) source);
+          end = omega (arith, size);
         } in
         let second = align_some source (i + len_utf8 c) a e in
         let both = takes_more source i (i + len_utf8 c) (i + len_utf8 c + 1) (encode_utf8 c) (align_mark (Some a)) first second in
         let other : c ≢ 125 = λ same. no_brace source i c parts.1 cut.0 same in
         rw (q, e) (both, (cut.1, other))
+
     by_end : (b : Bool) → (ends_at source i || has source i 125) ≡ b → IsFilled source i (fill_align_at source i)
     by_end true q = rw q (takes_none source i, tt)
     by_end false q = by_next q (align_of (slice_index source (i + len_utf8 (char_at source i)))) refl
@@ -127,6 +128,7 @@ sign_spelled source i = by_plus (has source i 43) refl
     by_minus : has source i 43 ≡ false → (b : Bool) → has source i 45 ≡ b → Takes source i (sign_at source i).1 (sign_mark (sign_at source i).0)
     by_minus p true q = rw (p, q) (takes_byte source i 45 q (omega arith))
     by_minus p false q = rw (p, q) (takes_none source i)
+
     by_plus : (b : Bool) → has source i 43 ≡ b → Takes source i (sign_at source i).1 (sign_mark (sign_at source i).0)
     by_plus true q = rw q (takes_byte source i 43 q (omega arith))
     by_plus false q = by_minus q (has source i 45) refl
@@ -217,6 +219,7 @@ count_spelled source i r e = by_digit (is_ascii_digit (slice_index source i)) re
     by_name d false q e =
         let same : (None, i) ≡ r = ok_same _ r _ refl (rw (d, q) at e) in
         subst (IsCounted source i) same ([], takes_none source i, refl)
+
     by_digit : (b : Bool) → is_ascii_digit (slice_index source i) ≡ b → count_at source i ≡ Ok r → IsCounted source i r
     by_digit true q e = number_count_spelled source i r (rw q at e)
     by_digit false q e = by_name q (is_word_start (slice_index source i) && has source (run_end is_word source i) 36) refl e
@@ -249,9 +252,11 @@ precision_spelled source i r e = by_dot (has source i 46) refl e
     by_star d n false q e =
         let b = bind_ok (count_at source (i + 1)) (counted_precision_at source i) r (rw (d, n, q) at e) in
         counted_spelled source i b.value r d (count_spelled source (i + 1) b.value b.first) b.second
+
     by_end : has source i 46 ≡ true → (b : Bool) → ends_at source (i + 1) ≡ b → precision_at source i ≡ Ok r → IsPrecise source i r
     by_end d true q e = absurd (err_ok _ r (rw (d, q) at e))
     by_end d false q e = by_star d q (has source (i + 1) 42) refl e
+
     by_dot : (b : Bool) → has source i 46 ≡ b → precision_at source i ≡ Ok r → IsPrecise source i r
     by_dot true q e = by_end q (ends_at source (i + 1)) refl e
     by_dot false q e =
@@ -288,27 +293,35 @@ type_spelled source i r e = by_0 (ends_at source i || has source i 125) refl e
     by_8 : (ends_at source i || has source i 125) ≡ false → has source i 63 ≡ false → has source i 120 ≡ false → has source i 88 ≡ false → has source i 111 ≡ false → has source i 98 ≡ false → has source i 101 ≡ false → has source i 69 ≡ false → (b : Bool) → has source i 112 ≡ b → type_at source i ≡ Ok r → IsTyped source i r
     by_8 q0 q1 q2 q3 q4 q5 q6 q7 true q e = letter_spelled source i 112 Pointer r q (omega arith) refl (rw (q0, q1, q2, q3, q4, q5, q6, q7, q) at e)
     by_8 q0 q1 q2 q3 q4 q5 q6 q7 false q e = absurd (err_ok _ r (rw (q0, q1, q2, q3, q4, q5, q6, q7, q) at e))
+
     by_7 : (ends_at source i || has source i 125) ≡ false → has source i 63 ≡ false → has source i 120 ≡ false → has source i 88 ≡ false → has source i 111 ≡ false → has source i 98 ≡ false → has source i 101 ≡ false → (b : Bool) → has source i 69 ≡ b → type_at source i ≡ Ok r → IsTyped source i r
     by_7 q0 q1 q2 q3 q4 q5 q6 true q e = letter_spelled source i 69 UpperExp r q (omega arith) refl (rw (q0, q1, q2, q3, q4, q5, q6, q) at e)
     by_7 q0 q1 q2 q3 q4 q5 q6 false q e = by_8 q0 q1 q2 q3 q4 q5 q6 q (has source i 112) refl e
+
     by_6 : (ends_at source i || has source i 125) ≡ false → has source i 63 ≡ false → has source i 120 ≡ false → has source i 88 ≡ false → has source i 111 ≡ false → has source i 98 ≡ false → (b : Bool) → has source i 101 ≡ b → type_at source i ≡ Ok r → IsTyped source i r
     by_6 q0 q1 q2 q3 q4 q5 true q e = letter_spelled source i 101 LowerExp r q (omega arith) refl (rw (q0, q1, q2, q3, q4, q5, q) at e)
     by_6 q0 q1 q2 q3 q4 q5 false q e = by_7 q0 q1 q2 q3 q4 q5 q (has source i 69) refl e
+
     by_5 : (ends_at source i || has source i 125) ≡ false → has source i 63 ≡ false → has source i 120 ≡ false → has source i 88 ≡ false → has source i 111 ≡ false → (b : Bool) → has source i 98 ≡ b → type_at source i ≡ Ok r → IsTyped source i r
     by_5 q0 q1 q2 q3 q4 true q e = letter_spelled source i 98 Binary r q (omega arith) refl (rw (q0, q1, q2, q3, q4, q) at e)
     by_5 q0 q1 q2 q3 q4 false q e = by_6 q0 q1 q2 q3 q4 q (has source i 101) refl e
+
     by_4 : (ends_at source i || has source i 125) ≡ false → has source i 63 ≡ false → has source i 120 ≡ false → has source i 88 ≡ false → (b : Bool) → has source i 111 ≡ b → type_at source i ≡ Ok r → IsTyped source i r
     by_4 q0 q1 q2 q3 true q e = letter_spelled source i 111 Octal r q (omega arith) refl (rw (q0, q1, q2, q3, q) at e)
     by_4 q0 q1 q2 q3 false q e = by_5 q0 q1 q2 q3 q (has source i 98) refl e
+
     by_3 : (ends_at source i || has source i 125) ≡ false → has source i 63 ≡ false → has source i 120 ≡ false → (b : Bool) → has source i 88 ≡ b → type_at source i ≡ Ok r → IsTyped source i r
     by_3 q0 q1 q2 true q e = hex_spelled source i 88 UpperHex DebugUpperHex r q (omega arith) refl refl (rw (q0, q1, q2, q) at e)
     by_3 q0 q1 q2 false q e = by_4 q0 q1 q2 q (has source i 111) refl e
+
     by_2 : (ends_at source i || has source i 125) ≡ false → has source i 63 ≡ false → (b : Bool) → has source i 120 ≡ b → type_at source i ≡ Ok r → IsTyped source i r
     by_2 q0 q1 true q e = hex_spelled source i 120 LowerHex DebugLowerHex r q (omega arith) refl refl (rw (q0, q1, q) at e)
     by_2 q0 q1 false q e = by_3 q0 q1 q (has source i 88) refl e
+
     by_1 : (ends_at source i || has source i 125) ≡ false → (b : Bool) → has source i 63 ≡ b → type_at source i ≡ Ok r → IsTyped source i r
     by_1 q0 true q e = letter_spelled source i 63 Debug r q (omega arith) refl (rw (q0, q) at e)
     by_1 q0 false q e = by_2 q0 q (has source i 120) refl e
+
     by_0 : (b : Bool) → (ends_at source i || has source i 125) ≡ b → type_at source i ≡ Ok r → IsTyped source i r
     by_0 true q e =
         let same : (Display, i) ≡ r = ok_same _ r _ refl (rw q at e) in
