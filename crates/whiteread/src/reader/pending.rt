@@ -10,6 +10,7 @@ use crate::stream::{Error, IoFault, Result};
 use edge_io::Source;
 use std::alloc::Global;
 
+/// Where the first line feed stands.
 fn feed_at(bytes: &[u8]) -> Option<usize>
     ensures { result ≡ position (λ byte. byte == line_feed) bytes.now }
 {

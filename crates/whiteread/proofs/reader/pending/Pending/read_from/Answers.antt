@@ -1,7 +1,6 @@
-use Rattle.std.proofs.Common.{◌≡◌, ◌≤◌, ◌+◌, ◌-◌, ◌++◌, ◌∙◌, sym, ap, subst, List, ℕ, length, take, drop, min, arith, length-take, length-drop, length-append, add-zero, append-nil}
+use Rattle.std.proofs.Common.{◌≡◌, ◌+◌, ◌-◌, ◌++◌, ◌∙◌, sym, ap, subst, List, ℕ, length, take, drop, arith, length-take, length-drop, length-append}
 use Rattle.std.proofs.lemmas.List.{drop-append-le}
 use Rattle.whiteread.specs.Lines.{HasNoFeed}
-use Rattle.whiteread.specs.Given.{Gave}
 use Rattle.whiteread.proofs.LineLemmas.{front_stays, read_in, read_none, read_fits}
 use Rattle.whiteread.proofs.reader.pending.Pending.read_from.Goals as goal
 
@@ -35,5 +34,5 @@ returns-in-Ok-clause-bytes g c =
       record { bytes = c.in-Ok.ensures.bytes; count = c.in-Ok.ensures.given ∙ ap (λ n. g.S.Source.given c.args.source.now + n) (sym count) },
       ap (drop old.start) grown ∙ drop-append-le old.start old.bytes.items got (omega (arith, old.within)) ∙ ap (λ l. l ++ got) c.shift.ensures.bytes,
       omega (arith, c.in-Ok.ensures.count, count, given, read_fits _ c.len-len.result c.resize.new.self.len c.in-Some.room old.bytes.len c.args.ask (length c.read.new.buf) c.resize.ensures.len (omega (arith, c.in-Some.ensures)) (sym c.len-len.ensures) given),
-      sym count
+      sym count,
     )
