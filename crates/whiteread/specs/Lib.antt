@@ -9,6 +9,13 @@ pub mod Split
 pub mod White
 pub mod Whole
 pub mod ErrorText
+pub mod Lines
+pub mod Given
+pub mod Pending
+pub mod ReaderState
+pub mod LineCall
+pub mod ReaderWords
+pub mod Told
 pub mod Laws
 pub mod ReadingProofs
 pub mod WordProofs

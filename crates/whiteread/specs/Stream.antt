@@ -73,7 +73,7 @@ pub record OneRises (fault : IoFault) (old new : IoFault → ℕ) : Type 0 where
   pub others : (other : IoFault) → other ≢ fault → new other ≡ old other
 
 -- `next` refuses by IoError, where the count of that fault rose, or by NoMemory; each other count is as before.
-abbrev pub CountsNext : (IoFault → ℕ) → Answer → (IoFault → ℕ) → Type 0
+abbrev pub CountsNext : {T : Type 0} → (IoFault → ℕ) → Result T Error → (IoFault → ℕ) → Type 0
 CountsNext old (Ok found) new = new ≡ old
 CountsNext old (Err (TooShort progress)) new = ⊥
 CountsNext old (Err Leftovers) new = ⊥

@@ -6,8 +6,10 @@ ghost use Rattle.whiteread.specs.Whole.{ReadsWhole};
 
 pub mod adapters;
 pub mod laws;
+pub mod reader;
 pub mod stream;
 
+pub use reader::Reader;
 use std::alloc::Global;
 pub use stream::FromStream;
 use stream::{SplitAsciiWhitespace, read_whole};
