@@ -1,3 +1,4 @@
+pub mod RenderedLemmas
 pub mod WordLemmas
 pub mod FoundLemmas
 pub mod ReachLemmas

@@ -16,6 +16,11 @@ pub mod ReaderState
 pub mod LineCall
 pub mod ReaderWords
 pub mod Told
+pub mod Rendered
+pub mod Located
+pub mod ReaderCalls
+pub mod ReaderSteps
 pub mod Laws
 pub mod ReadingProofs
 pub mod WordProofs
+pub mod ReaderProofs
