@@ -1,8 +1,11 @@
 pub mod RenderedLemmas
 pub mod WordLemmas
+pub mod AheadLemmas
 pub mod FoundLemmas
 pub mod ReachLemmas
 pub mod CallLemmas
 pub mod NextLemmas
 pub mod SplitLemmas
 pub mod WhiteLemmas
+pub mod LineLemmas
+pub mod PassingLemmas

@@ -1,5 +1,5 @@
 -- Proofs of the laws of a reader's words, which its impl cites.
-use Rattle.std.proofs.Common.{◌≡◌, ◌≤◌, ◌<◌, ◌+◌, ◌-◌, ◌==◌, ◌||◌, ℕ, Bool, true, false, cond, nat_le, List, [], ◌∷◌, ◌++◌, length, take, drop, Option, Some, None, refl, sym, ◌∙◌, ap, subst, arith, length-append, length-drop, length-take-le}
+use Rattle.std.proofs.Common.{◌≡◌, ◌≤◌, ◌<◌, ◌+◌, ◌-◌, ◌==◌, ◌||◌, ℕ, Bool, true, false, cond, nat_le, List, [], ◌∷◌, ◌++◌, length, take, drop, Option, Some, None, refl, sym, ◌∙◌, ap, subst, arith, length-append, length-drop, length-take, take_all}
 use Rattle.std.specs.Option.{option_map}
 use Rattle.std.specs.Str.{is_utf8}
 use Rattle.std.specs.Io.KnownBytes.{IsAtEnd}
@@ -12,7 +12,7 @@ use Rattle.whiteread.specs.ReaderState.{reader_source, reader_limit, reader_take
 use Rattle.whiteread.specs.ReaderWords.{reader_stream, reader_left, words_of_lines, whole_within, words_ahead, words_in_line, IsAtLast}
 use Rattle.whiteread.specs.declared.reader.Reader.{Reader}
 
-words_short : (xs : List ℕ) → length (words xs) ≤ length xs
+pub words_short : (xs : List ℕ) → length (words xs) ≤ length xs
 unfolding words
 words_short xs = runs_short is_blank xs
 
@@ -53,7 +53,7 @@ whole_short : (room : ℕ) (waiting rest : List ℕ) → length (whole_within ro
 whole_short room waiting rest =
     elim (nat_le (length rest) room) as (λ b. nat_le (length rest) room ≡ b → length (cond b (waiting ++ rest) (up_to_last_feed (waiting ++ take room rest))) ≤ length waiting + room) [
       | true ↦ λ h. omega (arith, length-append waiting rest, leb-true (length rest) room h)
-      | false ↦ λ h. omega (arith, up_short (waiting ++ take room rest), length-append waiting (take room rest), length-take-le room rest)
+      | false ↦ λ h. omega (arith, up_short (waiting ++ take room rest), length-append waiting (take room rest), length-take room rest)
     ] refl
 
 ahead_short : (past : Bool) (room : ℕ) (waiting rest : List ℕ) → length (cond past [] (words_of_lines (lines_of (whole_within room waiting rest)))) ≤ length waiting + room
@@ -70,17 +70,17 @@ left_short r (Some bytes) all told =
         words_short (drop (reader_passed r) (reader_line r)), length-drop (reader_passed r) (reader_line r),
         ahead_short (reader_past r) (reader_limit r - reader_taken r) (reader_waiting r) bytes)
 
-none_whole : (room : ℕ) → whole_within room [] [] ≡ []
+pub none_whole : (room : ℕ) → whole_within room [] [] ≡ []
 none_whole room = elim (nat_le 0 room) as (λ b. cond b ([] ++ []) (up_to_last_feed ([] ++ take room [])) ≡ []) [ | true ↦ refl | false ↦ none_taken room ] where
   none_taken : (n : ℕ) → up_to_last_feed ([] ++ take n []) ≡ []
-  none_taken n = ?
+  none_taken n = ap up_to_last_feed (take_all n [] (omega arith))
 
 none_ahead : (past : Bool) (room : ℕ) (waiting rest : List ℕ) → waiting ≡ [] → rest ≡ [] → cond past [] (words_of_lines (lines_of (whole_within room waiting rest))) ≡ []
 none_ahead true room waiting rest w r = refl
 none_ahead false room waiting rest w r =
     ap (λ (l : List ℕ). words_of_lines (lines_of (whole_within room l rest))) w ∙ ap (λ (l : List ℕ). words_of_lines (lines_of (whole_within room [] l))) r ∙ ap (λ (l : List ℕ). words_of_lines (lines_of l)) (none_whole room)
 
-end_left : {B : Type 0} (r : Reader B) (known : Option (List ℕ)) (all : Words) → words_in_line r ≡ [] → reader_waiting r ≡ [] → IsAtEnd known
+pub end_left : {B : Type 0} (r : Reader B) (known : Option (List ℕ)) (all : Words) → words_in_line r ≡ [] → reader_waiting r ≡ [] → IsAtEnd known
     → option_map (λ bytes. words_in_line r ++ words_ahead r bytes) known ≡ Some all → all ≡ []
 end_left r None all line waiting end told = absurd (let e = told in cc)
 end_left r (Some bytes) all line waiting end told =

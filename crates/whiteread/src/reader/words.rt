@@ -45,9 +45,10 @@ impl<B: Source> StrStream for Reader<B> {
     ghost is_stream = { reader_is_stream B.rest B.given B.faults B.reference };
 
     fn next(&mut self) -> Result<Option<&str>> {
-        match self.step()? {
-            Some(start) => Ok(Some(&self.line[start..self.passed])),
-            None => Ok(None),
-        }
+        let Some(start) = self.step()? else {
+            return Ok(None);
+        };
+        let end = self.passed;
+        Ok(Some(&self.line[start..end]))
     }
 }
