@@ -1,5 +1,5 @@
 -- Calls of a reader's `next`, line by line.
-use Rattle.std.proofs.Common.{◌≡◌, ◌≤◌, ◌<◌, ◌+◌, ◌-◌, ℕ, Bool, true, false, cond, List, [], ◌∷◌, ◌++◌, length, take, drop, drop_of_length-le, slice_range, Option, Some, None, Result, Ok, Err, IsTrue, refl, sym, ◌∙◌, ap, subst, arith, length-append, length-drop, length-take}
+use Rattle.std.proofs.Common.{inl, inr, ◌≡◌, ◌≤◌, ◌<◌, ◌+◌, ◌-◌, ℕ, Bool, true, false, cond, List, [], ◌∷◌, ◌++◌, length, take, drop, drop_of_length-le, slice_range, Option, Some, None, Result, Ok, Err, IsTrue, refl, sym, ◌∙◌, ap, subst, arith, length-append, length-drop, length-take}
 use Rattle.std.specs.Option.{option_map}
 use Rattle.std.specs.Io.KnownBytes.{Consumes, IsAtEnd}
 use Rattle.std.specs.Str.{IsUtf8}
@@ -227,3 +227,13 @@ refused_call rest given faults reference old cur new why passing none call = rec
   step = record { states = passing.states; last = cur; passes = passing.passes; ends = (none, call) };
   memory = may_want why;
 }
+
+-- the look found no word, and changed nothing
+pub looked : {B : Type 0} (rest : B → Option (List ℕ)) (given faults reference : B → ℕ) (old cur new : Reader B)
+    → Passing rest given faults reference old cur → LooksInLine cur None new → Passing rest given faults reference old new × (words_in_line new ≡ [])
+looked rest given faults reference old cur new passing look =
+    (subst (λ r. Passing rest given faults reference old r) (sym look.1) passing, subst (λ r. words_in_line r ≡ []) (sym look.1) look.0)
+
+pub line_read : {B : Type 0} (rest : B → Option (List ℕ)) (given faults reference : B → ℕ) (cur : Reader B) (found is : Bool) (next : Reader B)
+    → found ≡ is → LineCall rest given faults reference cur (Ok found) next → LineCall rest given faults reference cur (Ok is) next
+line_read rest given faults reference cur found is next same call = subst (λ b. LineCall rest given faults reference cur (Ok b) next) same call

@@ -20,6 +20,7 @@ pub mod Rendered
 pub mod Located
 pub mod ReaderCalls
 pub mod ReaderSteps
+pub mod OneLine
 pub mod Laws
 pub mod ReadingProofs
 pub mod WordProofs
