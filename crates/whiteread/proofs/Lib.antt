@@ -8,4 +8,7 @@ pub mod NextLemmas
 pub mod SplitLemmas
 pub mod WhiteLemmas
 pub mod LineLemmas
+pub mod AwaitLemmas
+pub mod ReadLineLemmas
+pub mod InLineLemmas
 pub mod PassingLemmas

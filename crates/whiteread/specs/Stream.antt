@@ -72,7 +72,7 @@ pub record OneRises (fault : IoFault) (old new : IoFault → ℕ) : Type 0 where
   pub rose : Rises (old fault) (new fault)
   pub others : (other : IoFault) → other ≢ fault → new other ≡ old other
 
--- `next` refuses by IoError, where the count of that fault rose, or by NoMemory; each other count is as before.
+-- A call refuses by IoError, where the count of that fault rose, or by NoMemory; each other count is as before.
 abbrev pub CountsNext : {T : Type 0} → (IoFault → ℕ) → Result T Error → (IoFault → ℕ) → Type 0
 CountsNext old (Ok found) new = new ≡ old
 CountsNext old (Err (TooShort progress)) new = ⊥

@@ -37,17 +37,6 @@ impl Model for Error {
 pub type Result<T> = std::result::Result<T, Error>;
 
 impl Error {
-    // An error that is told without a place.
-    pub(crate) fn without_place(error: stream::Error) -> Error
-        ensures { result ≡ unplaced error }
-    {
-        Error {
-            error,
-            place: None,
-            rendered: None,
-        }
-    }
-
     // The error at a row, counted from 1, in a line of which so many bytes were passed. Row 0 is before the first line.
     pub(crate) fn new(
         alloc: Global,
@@ -60,7 +49,11 @@ impl Error {
         ensures { IsLocated error row passed line.now cheap result }
     {
         if row == 0 || !has_place(&error) {
-            return Error::without_place(error);
+            return Error {
+                error,
+                place: None,
+                rendered: None,
+            };
         }
         let place = Some((row, passed));
         if cheap {
@@ -76,7 +69,22 @@ impl Error {
                 place,
                 rendered: Some(text),
             },
-            Err(_) => Error::without_place(stream::Error::NoMemory),
+            Err(_) => Error {
+                error: stream::Error::NoMemory,
+                place: None,
+                rendered: None,
+            },
+        }
+    }
+
+    // An error that is about no place in the input.
+    pub(crate) fn without_place(error: stream::Error) -> Error
+        ensures { result ≡ unplaced error }
+    {
+        Error {
+            error,
+            place: None,
+            rendered: None,
         }
     }
 

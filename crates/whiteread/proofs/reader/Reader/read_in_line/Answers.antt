@@ -1,6 +1,6 @@
 use Rattle.std.proofs.Common.{refl, sym, ◌∙◌}
 use Rattle.whiteread.proofs.ReachLemmas.{reached_read}
-use Rattle.whiteread.proofs.LineLemmas.{Begins, begins, in_line, passed_boundary}
+use Rattle.whiteread.proofs.InLineLemmas.{Begins, begins, in_line, passed_boundary}
 use Rattle.whiteread.proofs.reader.Reader.read_in_line.Goals as goal
 
 pub invariant_of-self : goal.invariant_of-self

@@ -1,8 +1,8 @@
 use Rattle.std.proofs.Common.{refl, sym, ◌∙◌}
 use Rattle.whiteread.specs.Whole.{WholeCall}
 use Rattle.whiteread.specs.Split.{split_stream}
-use Rattle.whiteread.proofs.LineLemmas.{reached_whole}
-use Rattle.whiteread.proofs.LineLemmas.{Begins, begins, in_line, passed_boundary}
+use Rattle.whiteread.proofs.InLineLemmas.{reached_whole}
+use Rattle.whiteread.proofs.InLineLemmas.{Begins, begins, in_line, passed_boundary}
 use Rattle.whiteread.proofs.reader.Reader.read_whole_line.Goals as goal
 
 pub invariant_of-self : goal.invariant_of-self

@@ -1,6 +1,6 @@
 use Rattle.std.proofs.Common.{◌≡◌, true, false, rules, Ok, Err}
 use Rattle.std.proofs.lemmas.Result.{err_from_is_err_and}
-use Rattle.whiteread.proofs.LineLemmas.{over_refused, over_end, over_line}
+use Rattle.whiteread.proofs.InLineLemmas.{over_refused, over_end, over_line}
 use Rattle.whiteread.proofs.reader.Reader.read_whole_new_line.Goals as goal
 
 pub returns-in_err-read_line : goal.returns-in_err-read_line
