@@ -69,7 +69,7 @@ lines_unended (x ∷ y ∷ line) some none =
 
 feed_in : (text rest : List ℕ) → has_feed (text ++ line_feed ∷ rest) ≡ true
 feed_in [] rest = refl
-feed_in (x ∷ text) rest = elim (x == line_feed) as (λ b. (b || has_feed (text ++ line_feed ∷ rest)) ≡ true) [ | true ↦ refl | false ↦ feed_in text rest ]
+feed_in (x ∷ text) rest = elim (x == line_feed) as (λ b. (b || has_feed (text ++ line_feed ∷ rest)) ≡ true) [ true ↦ refl | false ↦ feed_in text rest ]
 
 up_whole : (text rest : List ℕ) → up_to_last_feed (text ++ line_feed ∷ rest) ≡ text ++ line_feed ∷ up_to_last_feed rest
 up_whole [] rest = refl
@@ -81,9 +81,9 @@ utf8_front text utf8 =
     let at : get_or (text ++ line_feed ∷ []) (length text) 0 ≡ line_feed = feed_at text in
     let boundary = IsCharBoundary-before_ascii (text ++ line_feed ∷ []) (length text) (omega (arith, length-append text (line_feed ∷ []))) (omega (arith, at)) in
     subst IsUtf8 (take-append_seam text (line_feed ∷ [])) (IsUtf8-take (text ++ line_feed ∷ []) (length text) utf8 boundary) where
-  feed_at : (xs : List ℕ) → get_or (xs ++ line_feed ∷ []) (length xs) 0 ≡ line_feed
-  feed_at [] = refl
-  feed_at (x ∷ xs) = feed_at xs
+      feed_at : (xs : List ℕ) → get_or (xs ++ line_feed ∷ []) (length xs) 0 ≡ line_feed
+      feed_at [] = refl
+      feed_at (x ∷ xs) = feed_at xs
 
 words_of_first : (line : List ℕ) (lines : Words) → IsUtf8 line → words_of_lines (line ∷ lines) ≡ words line ++ words_of_lines lines
 words_of_first line lines utf8 = cond-true (is_utf8 line) (words line ++ words_of_lines lines) [] (is_utf8-from_IsUtf8 line utf8)
@@ -100,9 +100,9 @@ line_words line after utf8 (inr last) =
     let rest : words_of_lines (lines_of after) ≡ [] = ap (λ (l : List ℕ). words_of_lines (lines_of l)) last.1 in
     ap (λ (l : List ℕ). words_of_lines (lines_of l)) none ∙ ap words_of_lines (lines_unended line last.0.0 last.0.1) ∙ words_of_first line [] utf8
     ∙ ap (λ (w : Words). words line ++ w) (sym rest) where
-  append_nil : (l : List ℕ) → l ++ [] ≡ l
-  append_nil [] = refl
-  append_nil (x ∷ l) = ap (λ (m : List ℕ). x ∷ m) (append_nil l)
+      append_nil : (l : List ℕ) → l ++ [] ≡ l
+      append_nil [] = refl
+      append_nil (x ∷ l) = ap (λ (m : List ℕ). x ∷ m) (append_nil l)
 
 -- ---- what is whole within the limit
 
@@ -122,22 +122,24 @@ whole_cut room after waiting got line left rest is cut first unended =
           ∙ ap up_to_last_feed (taken ∙ sym (append_assoc waiting got (take after rest)) ∙ ap (λ (l : List ℕ). l ++ take after rest) cut ∙ append_assoc line left (take after rest))
           ∙ ended (not_le (length rest) after h) first
     ] refl where
-  le_false : (a b : ℕ) → b < a → nat_le a b ≡ false
-  le_false a b h = grind (arith, common_steps, h)
-  taken : waiting ++ take room (got ++ rest) ≡ waiting ++ (got ++ take after rest)
-  taken = ap (λ n. waiting ++ take n (got ++ rest)) is ∙ ap (λ (l : List ℕ). waiting ++ l) (take-append-add got rest after)
-  ended : after < length rest → IsFirstLine line left → up_to_last_feed (line ++ (left ++ take after rest)) ≡ line ++ up_to_last_feed (left ++ take after rest)
-  ended more (inl whole) =
-      ap (λ (l : List ℕ). up_to_last_feed (l ++ (left ++ take after rest))) whole.1 ∙ ap up_to_last_feed (append_assoc whole.0 (line_feed ∷ []) (left ++ take after rest))
-      ∙ up_whole whole.0 (left ++ take after rest) ∙ sym (append_assoc whole.0 (line_feed ∷ []) (up_to_last_feed (left ++ take after rest)))
-      ∙ sym (ap (λ (l : List ℕ). l ++ up_to_last_feed (left ++ take after rest)) whole.1)
-  ended more (inr last) = absurd (omega (arith, more, ap (λ (l : List ℕ). length l) (unended last.0.1)))
+      le_false : (a b : ℕ) → b < a → nat_le a b ≡ false
+      le_false a b h = grind (arith, common_steps, h)
+
+      taken : waiting ++ take room (got ++ rest) ≡ waiting ++ (got ++ take after rest)
+      taken = ap (λ n. waiting ++ take n (got ++ rest)) is ∙ ap (λ (l : List ℕ). waiting ++ l) (take-append-add got rest after)
+
+      ended : after < length rest → IsFirstLine line left → up_to_last_feed (line ++ (left ++ take after rest)) ≡ line ++ up_to_last_feed (left ++ take after rest)
+      ended more (inl whole) =
+          ap (λ (l : List ℕ). up_to_last_feed (l ++ (left ++ take after rest))) whole.1 ∙ ap up_to_last_feed (append_assoc whole.0 (line_feed ∷ []) (left ++ take after rest))
+          ∙ up_whole whole.0 (left ++ take after rest) ∙ sym (append_assoc whole.0 (line_feed ∷ []) (up_to_last_feed (left ++ take after rest)))
+          ∙ sym (ap (λ (l : List ℕ). l ++ up_to_last_feed (left ++ take after rest)) whole.1)
+      ended more (inr last) = absurd (omega (arith, more, ap (λ (l : List ℕ). length l) (unended last.0.1)))
 
 -- the words ahead are those of the line that was cut off, and those ahead of it
 pub ahead_cut : (room after : ℕ) (waiting got line left rest : List ℕ) → room ≡ length got + after → waiting ++ got ≡ line ++ left → IsFirstLine line left → (HasNoFeed line → rest ≡ []) → IsUtf8 line
     → words_of_lines (lines_of (whole_within room waiting (got ++ rest))) ≡ words line ++ words_of_lines (lines_of (whole_within after left rest))
 ahead_cut room after waiting got line left rest is cut first unended utf8 =
     ap (λ (l : List ℕ). words_of_lines (lines_of l)) (whole_cut room after waiting got line left rest is cut first unended) ∙ line_words line (whole_within after left rest) utf8 (still first) where
-  still : IsFirstLine line left → IsFirstLine line (whole_within after left rest)
-  still (inl whole) = inl whole
-  still (inr last) = inr (last.0, ap (λ (l : List ℕ). whole_within after l rest) last.1 ∙ ap (λ (l : List ℕ). whole_within after [] l) (unended last.0.1) ∙ none_whole after)
+      still : IsFirstLine line left → IsFirstLine line (whole_within after left rest)
+      still (inl whole) = inl whole
+      still (inr last) = inr (last.0, ap (λ (l : List ℕ). whole_within after l rest) last.1 ∙ ap (λ (l : List ℕ). whole_within after [] l) (unended last.0.1) ∙ none_whole after)

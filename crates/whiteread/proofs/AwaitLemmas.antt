@@ -162,15 +162,15 @@ lazy_more : {B : Type 0} (rest : Rest B) (given faults reference : B → ℕ) (o
     → (¬ HasNoFeed (reader_waiting old)) ⊎ (reader_past old ≡ true) → reader_source new ≡ reader_source old
 lazy_more rest given faults reference old mid new r none lazy =
     ⊎_elim (λ (not : ¬ HasNoFeed (reader_waiting old)). absurd (not (front_no_feed _ r.waits.got _ r.waits.waits none)))
-        (λ (past : reader_past old ≡ true). ⊎_elim (λ (e : reader_source mid ≡ reader_source old). lazy (r.waits.past ∙ past) ∙ e) (λ (h : HasNoFeed (reader_waiting old) × (reader_past old ≡ false)). absurd (false≢true (sym h.1 ∙ past))) r.unread)
+    (λ (past : reader_past old ≡ true). ⊎_elim (λ (e : reader_source mid ≡ reader_source old). lazy (r.waits.past ∙ past) ∙ e) (λ (h : HasNoFeed (reader_waiting old) × (reader_past old ≡ false)). absurd (false≢true (sym h.1 ∙ past))) r.unread)
 
 -- no piece was had
 pub await_refused : {B : Type 0} (rest : Rest B) (given faults reference : B → ℕ) (old mid new : Reader B) (why : Error) → Reads rest given faults reference old mid → HasNoFeed (reader_waiting mid) → PieceCall rest given faults reference mid (Err why) new → AwaitCall rest given faults reference old (Err why) new
 await_refused rest given faults reference old mid new why r none piece = record {
   outcome = refusal_more rest given old mid why new r.waits piece.outcome;
   step =
-    let s = step_more rest given faults reference old mid new Bool (Err why) r piece.step in
-    record { counts = counts_refusal Bool (Option ℕ) _ why _ s.counts; stays_past = s.stays_past; kept = s.kept };
+      let s = step_more rest given faults reference old mid new Bool (Err why) r piece.step in
+      record { counts = counts_refusal Bool (Option ℕ) _ why _ s.counts; stays_past = s.stays_past; kept = s.kept };
   lazy = lazy_more rest given faults reference old mid new r none piece.lazy;
 }
 
@@ -209,7 +209,7 @@ await_last rest given faults reference old mid new r none piece len is some =
       outcome = (
         waits_more rest given old mid new r.waits piece.outcome.0,
         record { within = omega arith; first = inr ((omega (arith, ap length all), free), left); unended = λ _. piece.outcome.2; few = omega (arith, ap length left) },
-        sym r.waits.past ∙ piece.outcome.3
+        sym r.waits.past ∙ piece.outcome.3,
       );
       step = step_ok faults reference old new false (Some len) (step_more rest given faults reference old mid new Bool (Ok false) r piece.step);
       lazy = lazy_more rest given faults reference old mid new r none piece.lazy;
@@ -221,15 +221,15 @@ pub await_whole : {B : Type 0} (rest : Rest B) (given faults reference : B → �
 await_whole rest given faults reference old mid r no_line len within whole =
     let longer : (free : ℕ) → HasNoFeed (take free (reader_waiting mid)) → free < len = λ free none. whole_longer (reader_waiting mid) len free whole none within in
     let none_all : HasNoFeed (reader_waiting mid) → ⊥ = λ none.
-        let all : take (length (reader_waiting mid)) (reader_waiting mid) ≡ reader_waiting mid = take_all _ (reader_waiting mid) (omega arith) in
-        let more : length (reader_waiting mid) < len = longer (length (reader_waiting mid)) (subst HasNoFeed (sym all) none) in
-        omega arith in
+    let all : take (length (reader_waiting mid)) (reader_waiting mid) ≡ reader_waiting mid = take_all _ (reader_waiting mid) (omega arith) in
+    let more : length (reader_waiting mid) < len = longer (length (reader_waiting mid)) (subst HasNoFeed (sym all) none) in
+    omega arith in
     let not_past : reader_past old ≡ false = false_of (reader_past old) (λ past. none_all (no_line (r.waits.past ∙ past))) in
     let free : r.free < len = longer r.free r.seen in record {
       outcome = (
         r.waits,
         record { within = within; first = inl whole; unended = λ none. absurd (let more : len < len = longer len none in omega arith); few = let left : length (drop len (reader_waiting mid)) ≡ length (reader_waiting mid) - len = length-drop len (reader_waiting mid) in omega (arith, r.few, left, free) },
-        not_past
+        not_past,
       );
       step = record { counts = r.counts; stays_past = λ past. r.waits.past ∙ past; kept = r.kept };
       lazy = ⊎_elim (λ (e : reader_source mid ≡ reader_source old). λ _. e) (λ (h : HasNoFeed (reader_waiting old) × (reader_past old ≡ false)). λ (given : (¬ HasNoFeed (reader_waiting old)) ⊎ (reader_past old ≡ true)).
@@ -278,4 +278,4 @@ pub turn_whole : {B : Type 0} (rest : Rest B) (given faults reference : B → �
     → (len : ℕ) → len ≤ length (reader_waiting start) → IsWhole (take len (reader_waiting start)) → AwaitCall rest given faults reference old (Ok (Some len)) mid
 turn_whole rest given faults reference old start mid r same len within whole =
     await_whole rest given faults reference old mid (reads_searched rest given faults reference old start mid r same) mid.no_line len (omega (arith, within, ap length same.stays.waiting))
-        (subst (λ (l : List ℕ). IsWhole (take len l)) (sym same.stays.waiting) whole)
+    (subst (λ (l : List ℕ). IsWhole (take len l)) (sym same.stays.waiting) whole)

@@ -60,8 +60,8 @@ whole_at xs n at front found =
 pub no_feed_dropped : (xs : List ℕ) (start n k m : ℕ) → m ≡ n - k → HasNoFeed (take n (drop start xs)) → HasNoFeed (take m (drop (start + k) xs))
 no_feed_dropped xs start n k m is front =
     let left : HasNoFeed (take (n - k) (drop k (drop start xs))) = front_of (drop k (drop start xs)) (n - k) (λ j d below within.
-        let inside : j < length (drop start xs) - k = simp (length-drop k (drop start xs)) at within in
-        ap (λ x. not (is_feed x)) (get_or-drop k (drop start xs) j d) ∙ front_at (drop start xs) n front (k + j) d (omega arith) (omega arith)) in
+    let inside : j < length (drop start xs) - k = simp (length-drop k (drop start xs)) at within in
+    ap (λ x. not (is_feed x)) (get_or-drop k (drop start xs) j d) ∙ front_at (drop start xs) n front (k + j) d (omega arith) (omega arith)) in
     subst (λ (i : ℕ). HasNoFeed (take i (drop (start + k) xs))) (sym is) (rw (← drop-drop) left)
 
 -- a whole line is longer than a front without a line feed
@@ -72,8 +72,8 @@ whole_longer xs len free whole none within =
     let count : length (take len xs) ≡ length text + 1 = ap length whole.1 ∙ length-append text (line_feed ∷ []) in
     let last : get_or xs (length text) 0 ≡ line_feed = sym (get_or-take len xs (length text) 0 (omega arith)) ∙ ap (λ l. get_or l (length text) 0) whole.1 ∙ get_or-append_seam text line_feed [] 0 in
     ⊎_elim (λ (lt : free < len). lt) (λ (le : len ≤ free).
-        let kept : not (is_feed (get_or xs (length text) 0)) ≡ true = front_at xs free none (length text) 0 (omega arith) (omega arith) in
-        absurd (false≢true (sym (ap (λ x. not (is_feed x)) last) ∙ kept))) (cases_lt free len)
+    let kept : not (is_feed (get_or xs (length text) 0)) ≡ true = front_at xs free none (length text) 0 (omega arith) (omega arith) in
+    absurd (false≢true (sym (ap (λ x. not (is_feed x)) last) ∙ kept))) (cases_lt free len)
 
 -- the search goes on where it stopped
 pub searched_on : (items seen : List ℕ) (start n : ℕ) (o : Option ℕ) → seen ≡ items → o ≡ position (λ byte. byte == line_feed) (take (length seen - (start + n)) (drop (start + n) seen))
@@ -104,10 +104,10 @@ read_cut whole buf past back xs len count room is long fits within =
     let shape : (take len whole ++ (buf ++ past)) ++ back ≡ xs ++ (buf ++ rest) =
     append_assoc (take len whole) (buf ++ past) back ∙ ap (λ l. take len whole ++ l) (append_assoc buf past back) ∙ ap (λ l. l ++ (buf ++ rest)) is in
     ap (λ l. take (len + count) (take room l)) shape
-        ∙ take-take (len + count) room (xs ++ (buf ++ rest)) within
-        ∙ ap (λ i. take (i + count) (xs ++ (buf ++ rest))) (sym long)
-        ∙ take-append-add xs (buf ++ rest) count
-        ∙ ap (λ l. xs ++ l) (take-append-le count buf rest fits)
+    ∙ take-take (len + count) room (xs ++ (buf ++ rest)) within
+    ∙ ap (λ i. take (i + count) (xs ++ (buf ++ rest))) (sym long)
+    ∙ take-append-add xs (buf ++ rest) count
+    ∙ ap (λ l. xs ++ l) (take-append-le count buf rest fits)
 
 -- the buffer after such a read
 pub read_in : (b : Bool) (old whole buf past back new : List ℕ) (room len more count size : ℕ) → length old ≡ len → len ≤ room → whole ≡ (if b then take room old ++ replicate more 0 else old)
@@ -126,7 +126,7 @@ pub read_none : (b : Bool) (old whole buf past back new : List ℕ) (room len mo
     → new ≡ take len (take size ((take len whole ++ (buf ++ past)) ++ back)) → new ≡ old
 read_none b old whole buf past back new room len more size long le made whole_buf sized is =
     read_in b old whole buf past back new room len more 0 size long le made whole_buf sized (omega arith) (is ∙ ap (λ n. take n (take size ((take len whole ++ (buf ++ past)) ++ back))) (sym (add-zero len)))
-        ∙ append-nil old
+    ∙ append-nil old
 
 -- a read gives at most what was asked for
 pub read_fits : (b : Bool) (len size room had ask given : ℕ) → size ≡ (if b then room else had) → room ≡ len + ask → had ≡ len → given ≡ size - len → given ≤ ask

@@ -45,9 +45,9 @@ not_past old new stays now =
       | true ↦ λ h. absurd (clash (reader_past new) (h refl) now)
       | false ↦ λ h. refl
     ] stays where
-  clash : (b : Bool) → b ≡ true → b ≡ false → ⊥
-  clash true p q = cc
-  clash false p q = cc
+      clash : (b : Bool) → b ≡ true → b ≡ false → ⊥
+      clash true p q = cc
+      clash false p q = cc
 
 ahead_within : {B : Type 0} (r : Reader B) (bytes : List ℕ) → reader_past r ≡ false
     → words_ahead r bytes ≡ words_of_lines (lines_of (whole_within (reader_limit r - reader_taken r) (reader_waiting r) bytes))
@@ -123,10 +123,11 @@ word_left : {B : Type 0} (cur new : Reader B) (word : List ℕ) (known after : O
     → (more : Words) × (all ≡ word ∷ more) × (option_map (λ bytes. words_in_line new ++ words_ahead new bytes) after ≡ Some more)
 word_left cur new word None after all finds stays same told = absurd (let e = told in cc)
 word_left cur new word (Some xs) after all finds stays same told =
-    let line : words_in_line cur ≡ word ∷ words_in_line new = finds.first ∙ ap (λ (l : List ℕ). word ∷ words (drop (reader_passed new) l)) (sym stays.line) in
-    (words_in_line new ++ words_ahead new xs,
-     sym (some_is _ _ told) ∙ ap (λ (w : Words). w ++ words_ahead cur xs) line ∙ ap (λ (w : Words). word ∷ (words_in_line new ++ w)) (sym (same_ahead cur new xs stays)),
-     ap (option_map (λ bytes. words_in_line new ++ words_ahead new bytes)) same)
+    let line : words_in_line cur ≡ word ∷ words_in_line new = finds.first ∙ ap (λ (l : List ℕ). word ∷ words (drop (reader_passed new) l)) (sym stays.line) in (
+      words_in_line new ++ words_ahead new xs,
+      sym (some_is _ _ told) ∙ ap (λ (w : Words). w ++ words_ahead cur xs) line ∙ ap (λ (w : Words). word ∷ (words_in_line new ++ w)) (sym (same_ahead cur new xs stays)),
+      ap (option_map (λ bytes. words_in_line new ++ words_ahead new bytes)) same,
+    )
 
 pub word_call : {B : Type 0} (rest : B → Option (List ℕ)) (given faults reference : B → ℕ) (old cur : Reader B) (start : ℕ) (new : Reader B)
     → Passing rest given faults reference old cur → LooksInLine cur (Some start) new → NextCall (reader_stream rest given faults reference) old (word_answer (Ok (Some start)) new) new
@@ -136,8 +137,19 @@ word_call rest given faults reference old cur start new passing (finds, stays, l
       words = takes_told (reader_left rest old) (Ok (Some word)) (reader_left rest new)
           (λ all is. word_left cur new word (rest (reader_source cur)) (rest (reader_source new)) all finds stays (ap rest stays.source) (passing.left all is));
       bound =
-          omega (arith, passing.bound, finds.end, less, within, stays.limit, stays.taken, ap (λ (l : List ℕ). length l) stays.waiting, ap (λ (l : List ℕ). length l) stays.line,
-              length-take (reader_passed new - start) (drop start (reader_line new)), length-drop start (reader_line new));
+          omega (
+            arith,
+            passing.bound,
+            finds.end,
+            less,
+            within,
+            stays.limit,
+            stays.taken,
+            ap (λ (l : List ℕ). length l) stays.waiting,
+            ap (λ (l : List ℕ). length l) stays.line,
+            length-take (reader_passed new - start) (drop start (reader_line new)),
+            length-drop start (reader_line new),
+          );
       end = tt;
       counts = stays.faults faults ∙ passing.counts;
       step = record { states = passing.states; last = cur; passes = passing.passes; ends = (finds, stays) };
@@ -168,9 +180,10 @@ none_call rest given faults reference old cur new passing none call =
     let line : words_in_line new ≡ [] = words_none (reader_passed new) (reader_line new) call.outcome.1.line in
     record {
       words = takes_told (reader_left rest old) (Ok None) (reader_left rest new)
-          (λ all is.
-              (end_left cur (rest (reader_source cur)) all none meets.none_waited (end_before (rest (reader_source cur)) (rest (reader_source new)) meets.gave.bytes meets.end) (passing.left all is),
-               end_told cur new (rest (reader_source cur)) (rest (reader_source new)) all meets.gave.bytes meets.end line meets.none_waits (passing.left all is)));
+          (λ all is. (
+            end_left cur (rest (reader_source cur)) all none meets.none_waited (end_before (rest (reader_source cur)) (rest (reader_source new)) meets.gave.bytes meets.end) (passing.left all is),
+            end_told cur new (rest (reader_source cur)) (rest (reader_source new)) all meets.gave.bytes meets.end line meets.none_waits (passing.left all is),
+          ));
       bound = omega (arith, passing.bound, meets.taken, call.limit, ap (λ (l : List ℕ). length l) meets.none_waits, ap (λ (l : List ℕ). length l) call.outcome.1.line);
       end = record { line = line; waiting = meets.none_waits; end = meets.end };
       counts = call.counts ∙ passing.counts;

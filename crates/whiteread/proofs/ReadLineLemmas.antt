@@ -56,7 +56,7 @@ lazy_cleared : {B : Type 0} (old start mid : Reader B) → Cleared old start →
 lazy_cleared old start mid c lazy given =
     let same : (¬ HasNoFeed (reader_waiting start)) ⊎ (reader_past start ≡ true) =
     ⊎_elim (λ (waits : ¬ HasNoFeed (reader_waiting old)). inl (λ (none : HasNoFeed (reader_waiting start)). waits (subst HasNoFeed c.waiting none)))
-        (λ (past : reader_past old ≡ true). inr (c.past ∙ past)) given in
+    (λ (past : reader_past old ≡ true). inr (c.past ∙ past)) given in
     lazy same ∙ c.source
 
 refused_outcome : {B : Type 0} (rest : Rest B) (given : B → ℕ) (old start : Reader B) (why : Error) (mid : Reader B) → Cleared old start → AwaitRefusal rest given start why mid → HasNoLine (reader_row old) mid → LineOutcome rest given old (Err why) mid
@@ -99,7 +99,7 @@ line_end {B} rest given faults reference old {start} {mid} new call c n =
           end = subst (λ (x : B). IsAtEnd (rest x)) (sym n.source) ends.end;
           past = n.past ∙ ends.past;
         },
-        record { row = n.row ∙ ap next_row (kept.row ∙ c.row); line = n.line ∙ kept.line ∙ c.line }
+        record { row = n.row ∙ ap next_row (kept.row ∙ c.row); line = n.line ∙ kept.line ∙ c.line },
       );
       passed = n.passed ∙ kept.passed ∙ c.passed;
       counts = n.faults faults ∙ call.step.counts ∙ c.faults faults;
@@ -134,7 +134,7 @@ line_taken rest given faults reference old {start} {mid} {new} len done take_cal
       outcome = (
         takes_line rest given old start mid new len (reader_line new) w call.outcome.1 c.waiting (sym c.past ∙ call.outcome.2) take_call.source take_call.taken take_call.past t.0 t.1,
         subst IsUtf8 (sym t.1) t.2,
-        t.3 ∙ ap next_row (kept.row ∙ c.row)
+        t.3 ∙ ap next_row (kept.row ∙ c.row),
       );
       passed = take_call.passed ∙ kept.passed ∙ c.passed;
       counts = take_call.counts ∙ call.step.counts ∙ c.faults faults;
@@ -155,7 +155,7 @@ not_taken_outcome rest given faults reference old start mid new len (IoError Not
     let w = waits_more rest given old start mid (waits_cleared rest given old start c) call.outcome.0 in
     let line = take len (reader_waiting mid) in (
       (line, takes_line rest given old start mid new len line w call.outcome.1 c.waiting (sym c.past ∙ call.outcome.2) take_call.source take_call.taken take_call.past t.0 refl, t.1),
-      record { row = t.2.row ∙ ap next_row (call.step.kept.row ∙ c.row); line = t.2.line }
+      record { row = t.2.row ∙ ap next_row (call.step.kept.row ∙ c.row); line = t.2.line },
     )
 not_taken_outcome rest given faults reference old start mid new len (IoError TooLong) take_call call c = absurd take_call.outcome
 not_taken_outcome rest given faults reference old start mid new len (IoError CannotOpen) take_call call c = take_call.outcome
@@ -169,7 +169,7 @@ not_taken_outcome {B} rest given faults reference old start mid new len NoMemory
         waits = t.0 ∙ w.waits;
         past = take_call.past ∙ w.past;
       },
-      record { row = t.1.row ∙ call.step.kept.row ∙ c.row; line = t.1.line }
+      record { row = t.1.row ∙ call.step.kept.row ∙ c.row; line = t.1.line },
     )
 
 -- a line was there, and could not be taken

@@ -21,6 +21,7 @@ pub mod ReaderWords
 pub mod ReaderCalls
 pub mod ReaderSteps
 pub mod OneLine
+pub mod Opened
 pub mod Laws
 pub mod ReadingProofs
 pub mod WordProofs

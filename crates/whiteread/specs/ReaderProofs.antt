@@ -66,12 +66,17 @@ left_short : {B : Type 0} (r : Reader B) (known : Option (List ℕ)) (all : Word
 left_short r None all told = absurd (let e = told in cc)
 left_short r (Some bytes) all told =
     let is : words_in_line r ++ words_ahead r bytes ≡ all = let e = told in cc in
-    omega (arith, ap (λ (w : Words). length w) is, length-append (words_in_line r) (words_ahead r bytes),
-        words_short (drop (reader_passed r) (reader_line r)), length-drop (reader_passed r) (reader_line r),
-        ahead_short (reader_past r) (reader_limit r - reader_taken r) (reader_waiting r) bytes)
+    omega (
+      arith,
+      ap (λ (w : Words). length w) is,
+      length-append (words_in_line r) (words_ahead r bytes),
+      words_short (drop (reader_passed r) (reader_line r)),
+      length-drop (reader_passed r) (reader_line r),
+      ahead_short (reader_past r) (reader_limit r - reader_taken r) (reader_waiting r) bytes,
+    )
 
 pub none_whole : (room : ℕ) → whole_within room [] [] ≡ []
-none_whole room = elim (nat_le 0 room) as (λ b. cond b ([] ++ []) (up_to_last_feed ([] ++ take room [])) ≡ []) [ | true ↦ refl | false ↦ none_taken room ] where
+none_whole room = elim (nat_le 0 room) as (λ b. cond b ([] ++ []) (up_to_last_feed ([] ++ take room [])) ≡ []) [ true ↦ refl | false ↦ none_taken room ] where
   none_taken : (n : ℕ) → up_to_last_feed ([] ++ take n []) ≡ []
   none_taken n = ap up_to_last_feed (take_all n [] (omega arith))
 

@@ -3,13 +3,16 @@ ghost use Rattle.std.specs.Prelude.{◌≡◌, ◌≤◌, ◌↔◌, [], true, f
 ghost use Rattle.whiteread.specs.Lines.{HasNoFeed};
 ghost use Rattle.whiteread.specs.Pending.{pending_bytes};
 
+pub(crate) mod ends;
 mod error;
 #[cfg(test)]
 mod error_tests;
 #[cfg(test)]
 mod line_tests;
-mod one_line;
+pub(crate) mod one_line;
 mod pending;
+#[cfg(test)]
+mod value_tests;
 mod values;
 mod words;
 
@@ -17,7 +20,6 @@ use crate::stream;
 use crate::stream::IoFault;
 use edge_io::Source;
 pub use error::{Error, Result};
-pub use one_line::parse_line_from;
 use pending::Pending;
 use std::alloc::Global;
 

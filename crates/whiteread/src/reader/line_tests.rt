@@ -1,6 +1,5 @@
 // Lines of sources that give pieces, that fail, and that are longer than the limit.
-use crate::Reader;
-use crate::stream;
+use crate::{Reader, stream};
 use edge_io::MemSource;
 use std::alloc::{AllocError, Global};
 use std::test::Fail;

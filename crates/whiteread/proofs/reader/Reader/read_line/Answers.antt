@@ -11,7 +11,7 @@ returns-in_err-len g c =
 pub returns-in_default : goal.returns-in_default
 returns-in_default g c =
     line_end g.B.Source.rest g.B.Source.given g.B.Source.faults g.B.Source.reference c.args.self.now _ (rw c.in_default.is at c.in_ok-len.ensures) (record { source = refl; limit = refl; taken = refl; past = refl; waiting = refl; row = refl; faults = λ faults. refl; line = c.clear.ensures.bytes; passed = refl })
-        (record { source = refl; limit = refl; taken = refl; past = refl; waiting = refl; row = c.saturating_add-self.ensures; faults = λ faults. refl; line = refl; passed = refl })
+    (record { source = refl; limit = refl; taken = refl; past = refl; waiting = refl; row = c.saturating_add-self.ensures; faults = λ faults. refl; line = refl; passed = refl })
 
 pub returns-in_err-take_line : goal.returns-in_err-take_line
 returns-in_err-take_line g c =

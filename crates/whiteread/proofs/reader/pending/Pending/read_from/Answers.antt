@@ -35,5 +35,5 @@ returns-in-Ok-clause-bytes g c =
       record { bytes = c.in-Ok.ensures.bytes; count = c.in-Ok.ensures.given ∙ ap (λ n. g.S.Source.given c.args.source.now + n) (sym count) },
       ap (drop old.start) grown ∙ drop-append-le old.start old.bytes.items got (omega (arith, old.within)) ∙ ap (λ l. l ++ got) c.shift.ensures.bytes,
       omega (arith, c.in-Ok.ensures.count, count, given, read_fits _ c.len-len.result c.resize.new.self.len c.in-Some.room old.bytes.len c.args.ask (length c.read.new.buf) c.resize.ensures.len (omega (arith, c.in-Some.ensures)) (sym c.len-len.ensures) given),
-      sym count
+      sym count,
     )
