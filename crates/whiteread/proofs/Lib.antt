@@ -12,3 +12,4 @@ pub mod AwaitLemmas
 pub mod ReadLineLemmas
 pub mod InLineLemmas
 pub mod PassingLemmas
+pub mod OneLineLemmas
