@@ -59,3 +59,7 @@ as_nothing (Err error) = Err error
 pub record LendsLine {B : Type 0} (rest : B → Option (List ℕ)) (given faults reference : B → ℕ) (old : Reader B) (result : Result (Bor (List ℕ)) Located) (new : Reader B) : Type 0 where
   pub told : TellsCall (OverNewLine (LineCall rest given faults reference) (InLine (ReadCall split_stream nothing))) false old (as_nothing result) new
   pub lent : IfOk result (λ line. line.now ≡ reader_line new)
+
+-- A new line is read and lent, and the reader stays in it for as long as it is lent.
+abbrev pub LendsNext : {B : Type 0} → (B → Option (List ℕ)) → (B → ℕ) → (B → ℕ) → (B → ℕ) → Reader B → Result (Bor (List ℕ)) Located → Type 0
+LendsNext {B} rest given faults reference old result = (new : Reader B) × LendsLine rest given faults reference old result new

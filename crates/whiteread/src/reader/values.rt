@@ -1,15 +1,10 @@
 // Values that are read from the words of a reader.
-ghost use mathlib.Core.Option.{none};
-ghost use denote.Follow.{follows_so};
-ghost use Rattle.std.specs.Borrow.{sem};
-ghost use Rattle.std.specs.Prelude.{⊤};
-ghost use Rattle.whiteread.specs.contracts.reader.Reader.{the_row};
 ghost use Rattle.whiteread.specs.Reading.{ReadCall};
 ghost use Rattle.whiteread.specs.Whole.{WholeCall};
 ghost use Rattle.whiteread.specs.Split.{split_stream};
 ghost use Rattle.whiteread.specs.LineCall.{LineCall};
 ghost use Rattle.whiteread.specs.ReaderWords.{reader_stream};
-ghost use Rattle.whiteread.specs.ReaderCalls.{IsTold, TellsCall, InLine, OverNewLine, LendsLine};
+ghost use Rattle.whiteread.specs.ReaderCalls.{IsTold, TellsCall, InLine, OverNewLine, LendsNext};
 
 use crate::reader::{Error, Reader, Result};
 use crate::stream;
@@ -77,7 +72,7 @@ impl<B: Source> Reader<B> {
     /// Reads a new line and lends it, its line feed included. Its words stay to be read. At the end of the input it
     /// answers `TooShort(Nothing)`. Its errors are those of a value that reads nothing.
     pub fn next_line(&mut self) -> Result<&str>
-        ensures* call { sem 𝓛 (follows_so (the_row B.row) (the_row B.row) self.entry.ghost_name none (λ _ _. ⊤) (λ new. LendsLine B.rest B.given B.faults B.reference self.old result new)) }
+        ensures { LendsNext B.rest B.given B.faults B.reference self.old result }
     {
         self.start_line::<()>()?;
         Ok(self.line.as_str())
