@@ -1,20 +1,19 @@
 -- The reading of a line, step by step.
-use Rattle.std.proofs.Common.{◌≡◌, ◌≢◌, ◌≤◌, ◌<◌, ◌+◌, ◌-◌, ℕ, Bool, true, false, max, min, List, [], ◌∷◌, ◌++◌, length, drop, take, Option, Some, None, Result, Ok, Err, refl, sym, ◌∙◌, ap, subst, inl, inr, ◌⊎◌, ⊎_elim, arith, add-zero, append-nil, append_assoc, get_or, not, ◌==◌, length-append, length-drop, length-take, take_all, take-append-drop}
+use Rattle.std.proofs.Common.{◌≡◌, ◌≤◌, ◌<◌, ◌+◌, ◌-◌, ℕ, Bool, true, false, max, List, [], ◌∷◌, ◌++◌, length, drop, take, Option, Some, None, Result, Ok, Err, refl, sym, ◌∙◌, ap, subst, inl, inr, ◌⊎◌, ⊎_elim, arith, add-zero, append-nil, append_assoc, get_or, not, ◌==◌, length-append, length-drop, take_all}
 use Rattle.std.specs.Prelude.{IsUtf8, IsCharBoundary, if◌then◌else◌}
 use Rattle.std.proofs.lemmas.Str.{IsCharBoundary-start}
 use Rattle.std.proofs.lemmas.List.Elements.{All-drop}
-use Rattle.std.specs.Io.KnownBytes.{Consumes, IsAtEnd}
+use Rattle.std.specs.Io.KnownBytes.{IsAtEnd}
 use Rattle.std.proofs.KnownBytes.{Consumes-nil, Consumes-trans}
 use Rattle.std.proofs.lemmas.Bool.{false≢true}
-use Rattle.std.proofs.lemmas.List.{drop_all, take-append-le, get_or_append_left}
+use Rattle.std.proofs.lemmas.List.{drop_all, get_or_append_left}
 use Rattle.std.proofs.Math.Seq.{take-append_seam}
-use Rattle.edge_io.specs.Ends.{Rises}
 use Rattle.whiteread.specs.Given.{Gave}
-use Rattle.whiteread.specs.Lines.{HasNoFeed, IsWhole, IsFirstLine, line_feed}
-use Rattle.whiteread.specs.Stream.{CountsNext, OneRises}
-use Rattle.whiteread.specs.ReaderState.{reader_source, reader_limit, reader_taken, reader_past, reader_waiting, reader_line, reader_passed, reader_row, reader_faults, fault_counts, ShowsSame}
-use Rattle.whiteread.specs.LineCall.{Waits, TakesLine, MeetsEnd, PassesLimit, HasNoLine, LineOutcome, LineCall, next_row, probe_len}
-use Rattle.whiteread.specs.LineSteps.{KeepsLine, AwaitRefusal, PieceOutcome, HasFirstLine, AwaitOutcome, StepCall, PieceCall, AwaitCall, TakeOutcome, TakeCall}
+use Rattle.whiteread.specs.Lines.{HasNoFeed, IsWhole, line_feed}
+use Rattle.whiteread.specs.Stream.{CountsNext}
+use Rattle.whiteread.specs.ReaderState.{reader_source, reader_taken, reader_past, reader_waiting, reader_faults, ShowsSame}
+use Rattle.whiteread.specs.LineCall.{Waits, MeetsEnd, PassesLimit, probe_len}
+use Rattle.whiteread.specs.LineSteps.{KeepsLine, AwaitRefusal, StepCall, PieceCall, AwaitCall}
 use Rattle.whiteread.specs.declared.reader.Reader.{Reader}
 use Rattle.whiteread.specs.declared.stream.error.Error.{Error}
 use Rattle.whiteread.specs.declared.stream.error.Error.TheVariants.{TooShort, Leftovers, ParseError, IoError, NoMemory}

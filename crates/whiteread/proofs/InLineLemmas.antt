@@ -1,11 +1,11 @@
 -- Calls over the words of a reader's current line, and over those of a new line.
-use Rattle.std.proofs.Common.{◌≡◌, ◌≤◌, ◌<◌, ℕ, Bool, true, false, List, length, Result, Ok, Err, inl, inr, refl, sym, ◌∙◌, ap, subst, arith}
+use Rattle.std.proofs.Common.{◌≡◌, ◌≤◌, ◌<◌, ℕ, Bool, true, false, List, length, Result, Ok, Err, inl, inr, refl, ◌∙◌, ap, subst, arith}
 use Rattle.std.specs.Str.{IsCharBoundary}
 use Rattle.whiteread.specs.Stream.{Stream}
-use Rattle.whiteread.specs.Reading.{Reading, ReadCall, Reached}
+use Rattle.whiteread.specs.Reading.{Reading, Reached}
 use Rattle.whiteread.specs.Whole.{WholeCall}
 use Rattle.whiteread.specs.Found.{FirstBoundary}
-use Rattle.whiteread.specs.Split.{split_text, split_position, SplitStep, split_stream}
+use Rattle.whiteread.specs.Split.{split_text, split_position, SplitStep}
 use Rattle.whiteread.specs.ReaderState.{reader_line, reader_passed, StaysInLine}
 use Rattle.whiteread.specs.ReaderCalls.{InLine, OverNewLine}
 use Rattle.whiteread.specs.declared.reader.Reader.{Reader}

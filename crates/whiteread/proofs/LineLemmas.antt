@@ -1,6 +1,6 @@
 -- Line feeds among bytes that wait.
-use Rattle.std.proofs.Common.{◌≡◌, ◌≤◌, ◌<◌, ◌+◌, ◌-◌, ℕ, Bool, true, false, not, cond, min, ◌==◌, ⊎_elim, List, [], ◌∷◌, ◌++◌, length, drop, take, get_or, Option, Some, None, add-zero, append-nil, refl, sym, ◌∙◌, ap, subst, arith, ltb, length-take, length-drop, length-append, append_assoc, if◌then◌else◌, replicate, get_or-take, get_or-drop}
-use Rattle.std.specs.List.{AllPass, position, position_or_len}
+use Rattle.std.proofs.Common.{◌≡◌, ◌≤◌, ◌<◌, ◌+◌, ◌-◌, ℕ, Bool, true, false, not, cond, min, ◌==◌, ⊎_elim, List, [], ◌∷◌, ◌++◌, length, drop, take, get_or, Option, Some, None, add-zero, append-nil, sym, ◌∙◌, ap, subst, arith, ltb, length-take, length-drop, length-append, append_assoc, if◌then◌else◌, replicate, get_or-take, get_or-drop}
+use Rattle.std.specs.List.{position, position_or_len}
 use Rattle.std.proofs.lemmas.Bool.{false≢true, cases_lt}
 use Rattle.std.proofs.lemmas.Bool.Decides.{nat_tests}
 use Rattle.std.proofs.lemmas.List.{take_more, take_all, take-take, take-append-le, drop-append-le, drop-drop}

@@ -1,16 +1,14 @@
 -- Bytes that are taken one by one, up to a line's end.
-use Rattle.std.proofs.Common.{◌≡◌, ◌≢◌, ◌≤◌, ◌<◌, ◌+◌, ◌==◌, ℕ, Bool, true, false, not, List, [], ◌∷◌, ◌++◌, length, Option, Some, None, Result, Ok, Err, inl, inr, refl, sym, ◌∙◌, ap, subst, arith, length-append, Vec}
+use Rattle.std.proofs.Common.{◌≡◌, ◌≢◌, ◌≤◌, ◌==◌, ℕ, true, not, List, [], ◌∷◌, ◌++◌, length, Option, Some, None, Ok, Err, inl, inr, refl, sym, ◌∙◌, ap, subst, arith, length-append, Vec}
 use Rattle.std.specs.Global.{Global}
-use Rattle.std.specs.List.{AllPass}
-use Rattle.std.specs.Io.KnownBytes.{IsAtEnd}
 use Rattle.std.proofs.lemmas.Grind.{common_steps}
 use Rattle.std.proofs.lemmas.List.Elements.{All-append, All-cons, All-nil}
 use Rattle.whiteread.specs.Given.{Gave}
-use Rattle.whiteread.specs.Lines.{HasNoFeed, IsWhole, line_feed}
-use Rattle.whiteread.specs.OneLine.{GivesByte, TakesOne, TakesOneLine, LineRefused, longest_line}
+use Rattle.whiteread.specs.Lines.{HasNoFeed, line_feed}
+use Rattle.whiteread.specs.OneLine.{GivesByte, TakesOneLine, LineRefused, longest_line}
 use Rattle.whiteread.specs.declared.stream.error.Error.{Error}
-use Rattle.whiteread.specs.declared.stream.error.Error.TheVariants.{TooShort, Leftovers, ParseError, IoError, NoMemory}
-use Rattle.whiteread.specs.declared.stream.error.IoFault.TheVariants.{ReadFault, NotUtf8, TooLong, CannotOpen}
+use Rattle.whiteread.specs.declared.stream.error.Error.TheVariants.{IoError, NoMemory}
+use Rattle.whiteread.specs.declared.stream.error.IoFault.TheVariants.{TooLong}
 use Rattle.whiteread.proofs.AwaitLemmas.{gave_none, gave_more}
 
 abbrev Rest : Type 0 → Type 0

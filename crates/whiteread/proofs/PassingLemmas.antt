@@ -1,5 +1,5 @@
 -- Calls of a reader's `next`, line by line.
-use Rattle.std.proofs.Common.{inl, inr, ◌≡◌, ◌≤◌, ◌<◌, ◌+◌, ◌-◌, ℕ, Bool, true, false, cond, List, [], ◌∷◌, ◌++◌, length, take, drop, drop_of_length-le, slice_range, Option, Some, None, Result, Ok, Err, IsTrue, refl, sym, ◌∙◌, ap, subst, arith, length-append, length-drop, length-take}
+use Rattle.std.proofs.Common.{inl, inr, ◌≡◌, ◌≤◌, ◌<◌, ◌+◌, ◌-◌, ℕ, Bool, true, false, cond, List, [], ◌∷◌, ◌++◌, length, drop, drop_of_length-le, Option, Some, None, Ok, Err, IsTrue, refl, sym, ◌∙◌, ap, subst, arith, length-append, length-drop, length-take}
 use Rattle.std.specs.Option.{option_map}
 use Rattle.std.specs.Io.KnownBytes.{Consumes, IsAtEnd}
 use Rattle.std.specs.Str.{IsUtf8}
@@ -7,12 +7,11 @@ use Rattle.std.proofs.lemmas.Bool.{cond-false}
 use Rattle.whiteread.specs.Words.{Words, words}
 use Rattle.whiteread.specs.Lines.{HasNoFeed, IsFirstLine, lines_of}
 use Rattle.whiteread.specs.Found.{FindsWord}
-use Rattle.whiteread.specs.Given.{Gave}
-use Rattle.whiteread.specs.Stream.{Stream, Answer, NextCall, TakesFirst, CountsNext, OnNoMemory, LowersAtWord}
-use Rattle.whiteread.specs.ReaderState.{reader_source, reader_limit, reader_taken, reader_past, reader_waiting, reader_line, reader_passed, reader_row, reader_faults, StaysInLine}
-use Rattle.whiteread.specs.LineCall.{LineCall, LineOutcome, TakesLine}
-use Rattle.whiteread.specs.ReaderWords.{reader_left, reader_bound, reader_stream, words_in_line, words_ahead, words_of_lines, whole_within, PassesLines, ReaderStep, IsAtLast}
-use Rattle.whiteread.specs.ReaderSteps.{LooksInLine, BeginsIn, word_answer, word_from}
+use Rattle.whiteread.specs.Stream.{Answer, NextCall, TakesFirst, CountsNext, OnNoMemory}
+use Rattle.whiteread.specs.ReaderState.{reader_source, reader_limit, reader_taken, reader_past, reader_waiting, reader_line, reader_passed, reader_faults, StaysInLine}
+use Rattle.whiteread.specs.LineCall.{LineCall, LineOutcome}
+use Rattle.whiteread.specs.ReaderWords.{reader_left, reader_bound, reader_stream, words_in_line, words_ahead, words_of_lines, whole_within, PassesLines}
+use Rattle.whiteread.specs.ReaderSteps.{LooksInLine, word_answer, word_from}
 use Rattle.whiteread.specs.ReaderProofs.{end_left}
 use Rattle.whiteread.specs.declared.reader.Reader.{Reader}
 use Rattle.whiteread.specs.declared.stream.error.Error.{Error}

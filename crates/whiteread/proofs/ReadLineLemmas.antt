@@ -1,13 +1,13 @@
 -- The reading of a line from its two steps: a line is awaited, and then taken.
-use Rattle.std.proofs.Common.{◌≡◌, ◌≤◌, ◌+◌, ℕ, Bool, true, false, max, min, List, [], ◌++◌, length, drop, take, Option, Some, None, Result, Ok, Err, refl, sym, ◌∙◌, ap, subst, inl, inr, ◌⊎◌, ⊎_elim, arith, add-zero, append-nil, take-append-drop}
+use Rattle.std.proofs.Common.{◌≡◌, ℕ, Bool, true, false, List, [], ◌++◌, length, drop, take, Option, Some, None, Ok, Err, refl, sym, ◌∙◌, ap, subst, inl, inr, ◌⊎◌, ⊎_elim, arith, add-zero, append-nil, take-append-drop}
 use Rattle.std.specs.Prelude.{IsUtf8}
 use Rattle.std.specs.Io.KnownBytes.{IsAtEnd}
 use Rattle.whiteread.specs.Given.{Gave}
 use Rattle.whiteread.specs.Lines.{HasNoFeed, IsFirstLine}
 use Rattle.whiteread.specs.Stream.{CountsNext}
 use Rattle.whiteread.specs.ReaderState.{reader_source, reader_limit, reader_taken, reader_past, reader_waiting, reader_line, reader_passed, reader_row, reader_faults}
-use Rattle.whiteread.specs.LineCall.{Waits, TakesLine, MeetsEnd, PassesLimit, HasNoLine, LineOutcome, LineCall, next_row}
-use Rattle.whiteread.specs.LineSteps.{KeepsLine, AwaitRefusal, HasFirstLine, AwaitCall, TakeCall}
+use Rattle.whiteread.specs.LineCall.{Waits, TakesLine, HasNoLine, LineOutcome, LineCall, next_row}
+use Rattle.whiteread.specs.LineSteps.{AwaitRefusal, HasFirstLine, AwaitCall, TakeCall}
 use Rattle.whiteread.specs.declared.reader.Reader.{Reader}
 use Rattle.whiteread.specs.declared.stream.error.Error.{Error}
 use Rattle.whiteread.specs.declared.stream.error.Error.TheVariants.{TooShort, Leftovers, ParseError, IoError, NoMemory}

@@ -1,5 +1,5 @@
 -- A call of `next` over a split text.
-use Rattle.std.proofs.Common.{length-drop, length-append, ◌++◌, ◌+◌, ◌≡◌, ◌≤◌, ℕ, List, [], ◌∷◌, length, drop, drop_of_length-le, max, Option, Some, None, Ok, Err, refl, sym, ◌∙◌, ap, arith}
+use Rattle.std.proofs.Common.{length-drop, length-append, ◌++◌, ◌≡◌, ◌≤◌, ℕ, List, [], ◌∷◌, length, drop, drop_of_length-le, max, Option, Some, None, Ok, Err, refl, sym, ◌∙◌, ap, arith}
 use denote.Ref.{Bor}
 use Rattle.whiteread.specs.Words.{words}
 use Rattle.whiteread.specs.Stream.{Answer, TakesFirst, NextCall, answer_of}

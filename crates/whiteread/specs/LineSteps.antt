@@ -1,7 +1,6 @@
 -- What the steps of the reading of a line do to a reader.
 use Rattle.std.specs.Prelude.{◌≡◌, ◌≤◌, ◌<◌, ℕ, ◌+◌, List, length, take, drop, max, IsUtf8, Bool, true, false, Option, Some, None, Result, Ok, Err, ◌⊎◌}
 use Rattle.std.specs.Io.KnownBytes.{IsAtEnd}
-use Rattle.whiteread.specs.Given.{Gave}
 use Rattle.whiteread.specs.Lines.{HasNoFeed, IsFirstLine}
 use Rattle.whiteread.specs.Stream.{CountsNext}
 use Rattle.whiteread.specs.ReaderState.{reader_source, reader_limit, reader_taken, reader_past, reader_waiting, reader_line, reader_passed, reader_row, reader_faults}

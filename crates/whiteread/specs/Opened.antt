@@ -4,7 +4,7 @@ use Rattle.whiteread.specs.Reading.{Reading}
 use Rattle.whiteread.specs.Whole.{WholeCall}
 use Rattle.whiteread.specs.Located.{Located, unplaced}
 use Rattle.whiteread.specs.OneLine.{ReadsOneLine}
-use Rattle.whiteread.specs.ReaderState.{reader_source, reader_limit, reader_taken, reader_past, reader_waiting, reader_line, reader_passed, reader_row}
+use Rattle.whiteread.specs.ReaderState.{reader_limit, reader_taken, reader_past, reader_waiting, reader_line, reader_passed, reader_row}
 use Rattle.whiteread.specs.ReaderWords.{reader_stream}
 use Rattle.whiteread.specs.ReaderCalls.{TellsCall}
 use Rattle.whiteread.specs.declared.reader.Reader.{Reader}

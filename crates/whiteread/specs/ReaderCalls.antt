@@ -1,14 +1,12 @@
 -- What the calls of a reader that read values do.
 use Rattle.std.specs.Prelude.{◌≡◌, ℕ, List, Bool, true, false, Option, Result, Ok, Err, IfOk}
 use denote.Ref.{Bor}
-use Rattle.whiteread.specs.Reading.{Reading, ReadCall}
+use Rattle.whiteread.specs.Reading.{ReadCall}
 use Rattle.whiteread.specs.Reads.{nothing}
-use Rattle.whiteread.specs.Whole.{WholeCall}
 use Rattle.whiteread.specs.Split.{split_text, split_position, split_stream}
 use Rattle.whiteread.specs.Located.{Located, IsLocated}
 use Rattle.whiteread.specs.LineCall.{LineCall}
 use Rattle.whiteread.specs.ReaderState.{reader_line, reader_passed, reader_row, StaysInLine}
-use Rattle.whiteread.specs.ReaderWords.{reader_stream}
 use Rattle.whiteread.specs.declared.reader.Reader.{Reader}
 use Rattle.whiteread.specs.declared.stream.split.SplitAsciiWhitespace.{SplitAsciiWhitespace}
 use Rattle.whiteread.specs.declared.stream.error.Error.{Error}

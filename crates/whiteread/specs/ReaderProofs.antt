@@ -1,5 +1,5 @@
 -- Proofs of the laws of a reader's words, which its impl cites.
-use Rattle.std.proofs.Common.{◌≡◌, ◌≤◌, ◌<◌, ◌+◌, ◌-◌, ◌==◌, ◌||◌, ℕ, Bool, true, false, cond, nat_le, List, [], ◌∷◌, ◌++◌, length, take, drop, Option, Some, None, refl, sym, ◌∙◌, ap, subst, arith, length-append, length-drop, length-take, take_all}
+use Rattle.std.proofs.Common.{◌≡◌, ◌≤◌, ◌+◌, ◌-◌, ◌==◌, ◌||◌, ℕ, Bool, true, false, cond, nat_le, List, [], ◌∷◌, ◌++◌, length, take, drop, Option, Some, None, refl, sym, ◌∙◌, ap, arith, length-append, length-drop, length-take, take_all}
 use Rattle.std.specs.Option.{option_map}
 use Rattle.std.specs.Str.{is_utf8}
 use Rattle.std.specs.Io.KnownBytes.{IsAtEnd}
@@ -9,7 +9,7 @@ use Rattle.whiteread.specs.Lines.{lines_of, with_first, line_feed, up_to_last_fe
 use Rattle.whiteread.specs.WordProofs.{runs_short}
 use Rattle.whiteread.specs.Stream.{IsStream}
 use Rattle.whiteread.specs.ReaderState.{reader_source, reader_limit, reader_taken, reader_past, reader_waiting, reader_line, reader_passed}
-use Rattle.whiteread.specs.ReaderWords.{reader_stream, reader_left, words_of_lines, whole_within, words_ahead, words_in_line, IsAtLast}
+use Rattle.whiteread.specs.ReaderWords.{reader_stream, words_of_lines, whole_within, words_ahead, words_in_line}
 use Rattle.whiteread.specs.declared.reader.Reader.{Reader}
 
 pub words_short : (xs : List ℕ) → length (words xs) ≤ length xs

@@ -1,5 +1,5 @@
 -- The text that shows where in a line an error stands.
-use Rattle.std.specs.Prelude.{ℕ, ◌+◌, ◌-◌, Bool, true, false, ◌||◌, List, ◌++◌, length, take, map, min, replicate, codes, chars, decimal, eqb, nat_le, if◌then◌else◌}
+use Rattle.std.specs.Prelude.{ℕ, ◌+◌, ◌-◌, Bool, ◌||◌, List, ◌++◌, length, take, map, min, replicate, codes, chars, decimal, eqb, nat_le, if◌then◌else◌}
 use Rattle.std.specs.List.{suffix_len}
 use Rattle.std.specs.Fmt.Cut.{floor_char_boundary}
 use Rattle.whiteread.specs.declared.stream.error.Error.{Error}

@@ -1,6 +1,6 @@
-use Rattle.std.proofs.Common.{refl, arith, sym, ap, length, rules}
+use Rattle.std.proofs.Common.{refl, arith}
 use Rattle.std.proofs.lemmas.Result.{err_from_is_err_and}
-use Rattle.whiteread.proofs.AwaitLemmas.{reads_none, turn_more, turn_refused, turn_end, turn_last, turn_whole}
+use Rattle.whiteread.proofs.AwaitLemmas.{turn_more, turn_refused, turn_end, turn_last, turn_whole}
 use Rattle.whiteread.proofs.reader.Reader.await_line.Goals as goal
 
 pub returns-in-Some : goal.returns-in-Some

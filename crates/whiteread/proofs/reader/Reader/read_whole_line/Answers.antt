@@ -1,4 +1,4 @@
-use Rattle.std.proofs.Common.{refl, sym, ◌∙◌}
+use Rattle.std.proofs.Common.{refl}
 use Rattle.whiteread.specs.Whole.{WholeCall}
 use Rattle.whiteread.specs.Split.{split_stream}
 use Rattle.whiteread.proofs.InLineLemmas.{reached_whole}

@@ -1,4 +1,4 @@
-use Rattle.std.proofs.Common.{◌≡◌, true, false, rules, Ok, Err}
+use Rattle.std.proofs.Common.{◌≡◌, true, false, rules}
 use Rattle.std.proofs.lemmas.Result.{err_from_is_err_and}
 use Rattle.whiteread.proofs.InLineLemmas.{over_refused, over_end, over_line}
 use Rattle.whiteread.proofs.reader.Reader.read_whole_new_line.Goals as goal

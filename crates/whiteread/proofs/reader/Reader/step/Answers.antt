@@ -1,8 +1,6 @@
-use Rattle.std.proofs.Common.{◌≡◌, true, false, [], rules, Ok, Err, sym, subst}
+use Rattle.std.proofs.Common.{◌≡◌, true, false, rules, sym}
 use Rattle.std.proofs.lemmas.Result.{err_from_is_err_and}
-use Rattle.whiteread.specs.LineCall.{LineCall}
-use Rattle.whiteread.specs.ReaderWords.{words_in_line}
-use Rattle.whiteread.proofs.PassingLemmas.{Passing, passing_more, ahead_falls, line_read, looked, word_call, none_call, refused_call}
+use Rattle.whiteread.proofs.PassingLemmas.{passing_more, ahead_falls, line_read, looked, word_call, none_call, refused_call}
 use Rattle.whiteread.proofs.reader.Reader.step.Goals as goal
 
 pub returns-in-Some-clause-call : goal.returns-in-Some-clause-call

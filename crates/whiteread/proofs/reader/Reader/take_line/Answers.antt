@@ -1,7 +1,3 @@
-use Rattle.std.proofs.Common.{◌≡◌, subst, sym, ap, drop, string_bytes, IsUtf8, IsCharBoundary, ◌∙◌}
-use Rattle.std.proofs.lemmas.Str.{IsCharBoundary-start}
-use Rattle.std.proofs.lemmas.List.Elements.{All-drop}
-use Rattle.whiteread.specs.Lines.{HasNoFeed, line_feed}
 use Rattle.whiteread.proofs.AwaitLemmas.{no_feed_rest, text_pushed}
 use Rattle.whiteread.proofs.reader.Reader.take_line.Goals as goal
 

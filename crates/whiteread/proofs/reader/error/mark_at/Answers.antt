@@ -1,5 +1,5 @@
 -- The mark is the last place where the text may be cut.
-use Rattle.std.proofs.Common.{◌≡◌, ◌≤◌, ◌∙◌, sym, ap, length, arith, rules}
+use Rattle.std.proofs.Common.{◌≡◌, ◌≤◌, ◌∙◌, sym, ap, length, rules}
 use Rattle.std.specs.Prelude.{min}
 use Rattle.std.specs.Fmt.Cut.{floor_char_boundary}
 use Rattle.whiteread.specs.Rendered.{last_of}

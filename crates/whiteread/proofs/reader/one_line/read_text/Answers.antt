@@ -1,5 +1,4 @@
 use Rattle.std.proofs.Common.{Ok, Err, refl}
-use Rattle.whiteread.specs.OneLine.{ReadsText}
 use Rattle.whiteread.proofs.reader.one_line.read_text.Goals as goal
 
 pub returns-in-Ok : goal.returns-in-Ok

@@ -1,7 +1,6 @@
-use Rattle.std.proofs.Common.{◌≡◌, ◌≤◌, ◌+◌, ◌-◌, ◌++◌, ◌∙◌, sym, ap, subst, List, ℕ, length, take, drop, min, arith, length-take, length-drop, length-append, add-zero, append-nil}
+use Rattle.std.proofs.Common.{◌≡◌, ◌+◌, ◌-◌, ◌++◌, ◌∙◌, sym, ap, subst, List, ℕ, length, take, drop, arith, length-take, length-drop, length-append}
 use Rattle.std.proofs.lemmas.List.{drop-append-le}
 use Rattle.whiteread.specs.Lines.{HasNoFeed}
-use Rattle.whiteread.specs.Given.{Gave}
 use Rattle.whiteread.proofs.LineLemmas.{front_stays, read_in, read_none, read_fits}
 use Rattle.whiteread.proofs.reader.pending.Pending.read_from.Goals as goal
 
