@@ -41,12 +41,14 @@ taking_more rest given faults old mid new line byte taking gives other short = r
 pub taken_whole : {B : Type 0} (rest : Rest B) (given faults : B → ℕ) (old mid new : B) (line : List ℕ) (byte : ℕ) (all : Vec ℕ Global) → all.items ≡ line ++ byte ∷ []
     → Taking rest given faults old mid line → GivesByte rest given faults mid (Ok (Some byte)) new → byte ≡ 10 → length line ≢ longest_line → TakesOneLine rest given faults old (Ok all) new
 taken_whole rest given faults old mid new line byte all is taking gives feed short =
-    let items : all.items ≡ line ++ line_feed ∷ [] = is ∙ ap (λ b. line ++ b ∷ []) feed in
-    (record {
-      gave = subst (Gave rest given old new) (sym is) (gave_more rest given old mid new line (byte ∷ []) taking.gave gives.0);
-      ended = inl (line, items, taking.none);
-      few = omega (arith, ap (λ (l : List ℕ). length l) is, length-append line (byte ∷ []), taking.few, short);
-    }, gives.1 ∙ taking.same)
+    let items : all.items ≡ line ++ line_feed ∷ [] = is ∙ ap (λ b. line ++ b ∷ []) feed in (
+      record {
+        gave = subst (Gave rest given old new) (sym is) (gave_more rest given old mid new line (byte ∷ []) taking.gave gives.0);
+        ended = inl (line, items, taking.none);
+        few = omega (arith, ap (λ (l : List ℕ). length l) is, length-append line (byte ∷ []), taking.few, short);
+      },
+      gives.1 ∙ taking.same,
+    )
 
 append_nil : (l : List ℕ) → l ++ [] ≡ l
 append_nil [] = refl
@@ -55,12 +57,14 @@ append_nil (x ∷ l) = ap (λ (m : List ℕ). x ∷ m) (append_nil l)
 -- the source's end ends the line
 pub taken_last : {B : Type 0} (rest : Rest B) (given faults : B → ℕ) (old mid new : B) (all : Vec ℕ Global)
     → Taking rest given faults old mid all.items → GivesByte rest given faults mid (Ok None) new → TakesOneLine rest given faults old (Ok all) new
-taken_last rest given faults old mid new all taking gives =
-    (record {
-      gave = subst (Gave rest given old new) (append_nil all.items) (gave_more rest given old mid new all.items [] taking.gave gives.0);
-      ended = inr (taking.none, gives.1);
-      few = taking.few;
-    }, gives.2 ∙ taking.same)
+taken_last rest given faults old mid new all taking gives = (
+  record {
+    gave = subst (Gave rest given old new) (append_nil all.items) (gave_more rest given old mid new all.items [] taking.gave gives.0);
+    ended = inr (taking.none, gives.1);
+    few = taking.few;
+  },
+  gives.2 ∙ taking.same,
+)
 
 pub taken_long : {B : Type 0} (rest : Rest B) (given faults : B → ℕ) (old mid new : B) (line : List ℕ) (byte : ℕ)
     → Taking rest given faults old mid line → GivesByte rest given faults mid (Ok (Some byte)) new → length line ≡ longest_line → LineRefused rest given faults old (IoError TooLong) new

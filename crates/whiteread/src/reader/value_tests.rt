@@ -12,14 +12,14 @@ fn reader_of(alloc: Global, text: &str) -> Result<Reader<MemSource>, AllocError>
     Ok(Reader::new(alloc, MemSource::new(bytes, 3, Vec::new(alloc)), 99))
 }
 
-fn is_at<T>(answer: std::result::Result<T, Error>, place: (u64, usize)) -> bool {
+fn is_at<T: Drop>(answer: std::result::Result<T, Error>, place: (u64, usize)) -> bool {
     match answer {
         Ok(_) => false,
         Err(error) => error.location() == Some(place),
     }
 }
 
-fn is_nothing<T>(answer: std::result::Result<T, Error>) -> bool {
+fn is_nothing<T: Drop>(answer: std::result::Result<T, Error>) -> bool {
     match answer {
         Ok(_) => false,
         Err(error) => error.is_nothing(),
