@@ -1,5 +1,6 @@
 pub mod RenderedLemmas
 pub mod WordLemmas
+pub mod AheadLemmas
 pub mod FoundLemmas
 pub mod ReachLemmas
 pub mod CallLemmas
@@ -9,3 +10,6 @@ pub mod WhiteLemmas
 pub mod LineLemmas
 pub mod AwaitLemmas
 pub mod ReadLineLemmas
+pub mod InLineLemmas
+pub mod PassingLemmas
+pub mod OneLineLemmas

@@ -19,6 +19,10 @@ pub mod LineCall
 pub mod LineSteps
 pub mod ReaderWords
 pub mod ReaderCalls
+pub mod ReaderSteps
+pub mod OneLine
+pub mod Opened
 pub mod Laws
 pub mod ReadingProofs
 pub mod WordProofs
+pub mod ReaderProofs

@@ -1,12 +1,12 @@
 -- What the calls of a reader that read values do.
-use Rattle.std.specs.Prelude.{◌≡◌, ℕ, List, Bool, true, false, Option, Result, Ok, Err}
-use Rattle.whiteread.specs.Reading.{Reading, ReadCall}
-use Rattle.whiteread.specs.Whole.{WholeCall}
+use Rattle.std.specs.Prelude.{◌≡◌, ℕ, List, Bool, true, false, Option, Result, Ok, Err, IfOk}
+use denote.Ref.{Bor}
+use Rattle.whiteread.specs.Reading.{ReadCall}
+use Rattle.whiteread.specs.Reads.{nothing}
 use Rattle.whiteread.specs.Split.{split_text, split_position, split_stream}
 use Rattle.whiteread.specs.Located.{Located, IsLocated}
 use Rattle.whiteread.specs.LineCall.{LineCall}
 use Rattle.whiteread.specs.ReaderState.{reader_line, reader_passed, reader_row, StaysInLine}
-use Rattle.whiteread.specs.ReaderWords.{reader_stream}
 use Rattle.whiteread.specs.declared.reader.Reader.{Reader}
 use Rattle.whiteread.specs.declared.stream.split.SplitAsciiWhitespace.{SplitAsciiWhitespace}
 use Rattle.whiteread.specs.declared.stream.error.Error.{Error}
@@ -47,3 +47,17 @@ pub record OverNewLine {B T : Type 0} (line_call : Reader B → Result Bool Erro
   pub mid : Reader B
   pub line : line_call old found mid
   pub then : AfterLine call found mid answer new
+
+-- A line that is lent counts as the empty tuple, and an error stays as it is.
+abbrev pub as_nothing : {A : Type 0} → Result A Located → Result (Unit {0}) Located
+as_nothing (Ok line) = Ok tt
+as_nothing (Err error) = Err error
+
+-- A new line is read, and nothing of its words, and the line is lent.
+pub record LendsLine {B : Type 0} (rest : B → Option (List ℕ)) (given faults reference : B → ℕ) (old : Reader B) (result : Result (Bor (List ℕ)) Located) (new : Reader B) : Type 0 where
+  pub told : TellsCall (OverNewLine (LineCall rest given faults reference) (InLine (ReadCall split_stream nothing))) false old (as_nothing result) new
+  pub lent : IfOk result (λ line. line.now ≡ reader_line new)
+
+-- A new line is read and lent, and the reader stays in it for as long as it is lent.
+abbrev pub LendsNext : {B : Type 0} → (B → Option (List ℕ)) → (B → ℕ) → (B → ℕ) → (B → ℕ) → Reader B → Result (Bor (List ℕ)) Located → Type 0
+LendsNext {B} rest given faults reference old result = (new : Reader B) × LendsLine rest given faults reference old result new

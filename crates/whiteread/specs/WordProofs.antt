@@ -55,7 +55,7 @@ runs_onto x [] = omega arith
 runs_onto x ([] ∷ all) = omega arith
 runs_onto x ((y ∷ piece) ∷ all) = omega arith
 
-runs_short : (blank : Test) (xs : List ℕ) → length (runs blank xs) ≤ length xs
+pub runs_short : (blank : Test) (xs : List ℕ) → length (runs blank xs) ≤ length xs
 runs_short blank [] = omega arith
 runs_short blank (x ∷ xs) =
     elim (blank x) as (λ b. length (filter is_filled (cond b ([] ∷ pieces blank xs) (onto_first x (pieces blank xs)))) ≤ length (x ∷ xs)) [

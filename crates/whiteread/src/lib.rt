@@ -10,6 +10,8 @@ pub mod reader;
 pub mod stream;
 
 pub use reader::Reader;
+pub use reader::ends::{parse_file, parse_line, parse_stdin};
+pub use reader::one_line::parse_line_from;
 use std::alloc::Global;
 pub use stream::FromStream;
 use stream::{SplitAsciiWhitespace, read_whole};

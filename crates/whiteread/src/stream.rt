@@ -1,5 +1,5 @@
 // Streams of words, and the values that are read from them.
-ghost use Rattle.std.specs.Prelude.{◌≡◌, ◌<◌, ◌↔◌, ℕ, List, IsTrue};
+ghost use Rattle.std.specs.Prelude.{◌≡◌, ◌<◌, ◌↔◌, ℕ, List, IsTrue, Bool};
 ghost use Rattle.std.specs.Borrow.{sem};
 ghost use Rattle.std.specs.Io.BufRead.{Rests};
 ghost use Rattle.whiteread.specs.Stream.{Stream, IsStream, NextCall, answer_of};
@@ -8,7 +8,7 @@ ghost use Rattle.whiteread.specs.Reading.{Reading, ReadCall, IsReading};
 mod containers;
 mod error;
 mod scalars;
-mod split;
+pub(crate) mod split;
 mod tuples;
 mod white;
 mod whole;
@@ -54,6 +54,8 @@ impl StrExt for &str {
 pub trait FromStream: Sized + Drop {
     /// A reader's errors show the line unless the type asks for cheap ones.
     const REQUEST_CHEAP_ERROR: bool;
+
+    ghost REQUEST_CHEAP_ERROR: { Bool };
 
     /// What it reads.
     ghost reading: { Reading Self };
