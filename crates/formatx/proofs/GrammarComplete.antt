@@ -1,5 +1,5 @@
 -- Each spelling of a template is read as the segments that it spells.
-use Rattle.std.proofs.Common.{◌≡◌, ◌≢◌, ◌==◌, ℕ, zero, suc, ◌+◌, ◌<◌, ◌≤◌, ◌⊎◌, inl, inr, Bool, true, false, ◌&&◌, ◌||◌, List, [], ◌∷◌, ◌++◌, length, drop, get_or, Option, Some, None, Result, Ok, Err, codes, slice_index, refl, sym, ap, ◌∙◌, subst, arith, append_assoc}
+use Rattle.std.proofs.Common.{◌≡◌, ◌==◌, ℕ, zero, suc, ◌+◌, ◌<◌, ◌≤◌, inl, inr, Bool, true, false, ◌||◌, List, [], ◌∷◌, ◌++◌, length, drop, get_or, Ok, codes, slice_index, refl, sym, ap, ◌∙◌, subst, arith}
 use Rattle.std.specs.Char.{is_ascii_digit}
 use Rattle.std.specs.List.{concat, list_all, prefix_len}
 use Rattle.std.specs.Str.{IsUtf8}
@@ -7,21 +7,19 @@ use Rattle.std.proofs.lemmas.Bool.{and_parts}
 use Rattle.std.proofs.lemmas.Bool.Decides.{nat_tests}
 use Rattle.std.proofs.lemmas.List.{length-append, length-drop}
 use Rattle.std.proofs.lemmas.Str.{IsUtf8-drop, IsCharBoundary-after_ascii}
-use Rattle.formatx.specs.Fault.{Fault, ◌>>=◌, span}
-use Rattle.formatx.specs.Words.{ends_at, has, is_plain, is_word, is_word_start, run_end}
-use Rattle.formatx.specs.Options.{alternate_at, count_at, fill_align_at, number_between, precision_at, sign_at, type_at, zero_at}
-use Rattle.formatx.specs.Segments.{argument_at, closed_at, follows_argument, options_at, placeholder_at, segment_at, segments_from, segments_of, spec_at}
-use Rattle.formatx.specs.Spans.{no_options}
-use Rattle.formatx.specs.Grammar.{IsNumber, IsName, IsArgument, IsWidth, IsPrecision, IsOptions, IsSpec, IsPlaceholder, IsSegment, SpellsAt, AreApart, Spells, fill_mark, align_mark, sign_mark, alternate_mark, zero_mark, type_mark, has_zero_flag}
+use Rattle.formatx.specs.Fault.{span}
+use Rattle.formatx.specs.Words.{ends_at, has, is_plain, is_word, is_word_start}
+use Rattle.formatx.specs.Segments.{argument_at, follows_argument, options_at, placeholder_at, segment_at, segments_from, segments_of, spec_at}
+use Rattle.formatx.specs.Grammar.{IsArgument, IsWidth, IsPrecision, IsOptions, IsSpec, IsPlaceholder, IsSegment, SpellsAt, AreApart, Spells, fill_mark, align_mark, sign_mark, alternate_mark, zero_mark, type_mark, has_zero_flag}
 use Rattle.formatx.specs.declared.ast.Argument.{Argument}
 use Rattle.formatx.specs.declared.ast.Argument.TheVariants as Of
 use Rattle.formatx.specs.declared.ast.FormatSpec.{FormatSpec}
 use Rattle.formatx.specs.declared.ast.Placeholder.{Placeholder}
 use Rattle.formatx.specs.declared.ast.Segment.{Segment}
 use Rattle.formatx.specs.declared.ast.Segment.TheVariants.{Literal, EscapedOpen, EscapedClose, Placeholder as Placed}
-use Rattle.formatx.proofs.GrammarPlaces.{byte_after, byte_here, inside, join, move, no_end, no_run, run_here, concat_join}
-use Rattle.formatx.proofs.GrammarReads.{digits_here, name_here, read_number, read_sign, read_alternate, read_zero, read_width, read_precision, read_type, begin_type, type_no_name, begin_precision, begin_width, begin_zero, begin_alternate, number_head, head_append, word_no_digit}
-use Rattle.formatx.proofs.GrammarFill.{Closes, closes, closes_after, read_fill, sign_options, alternate_options, zero_options, width_options, precision_options, type_options}
+use Rattle.formatx.proofs.GrammarPlaces.{byte_after, byte_here, inside, join, move, no_end, run_here, concat_join}
+use Rattle.formatx.proofs.GrammarReads.{digits_here, name_here, read_number, read_sign, read_alternate, read_zero, read_width, read_precision, read_type, begin_type, type_no_name, begin_precision, begin_width, begin_zero, begin_alternate, number_head, word_no_digit}
+use Rattle.formatx.proofs.GrammarFill.{closes, closes_after, read_fill, sign_options, alternate_options, zero_options, width_options, precision_options, type_options}
 use Rattle.formatx.proofs.ReadLemmas.{segments_from-read, segments_from-end}
 
 -- ---- the options

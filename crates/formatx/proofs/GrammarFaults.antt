@@ -1,13 +1,13 @@
 -- Reading has one kind of fault: a place that can't be read.
-use Rattle.std.proofs.Common.{◌≡◌, ℕ, zero, suc, ◌+◌, Bool, true, false, not, ◌==◌, ◌&&◌, ◌||◌, List, [], ◌∷◌, length, Option, Some, None, Result, Ok, Err, codes, slice_index, refl, sym, ap, ◌∙◌, subst, if◌then◌else◌}
+use Rattle.std.proofs.Common.{◌≡◌, ℕ, zero, suc, ◌+◌, Bool, true, false, not, ◌==◌, ◌&&◌, ◌||◌, List, length, Option, Some, None, Result, Ok, Err, codes, slice_index, refl, sym, ◌∙◌, subst, if◌then◌else◌}
 use Rattle.std.specs.Prelude.{ok_or, ⊤}
 use Rattle.std.specs.Char.{is_ascii_digit}
 use Rattle.std.specs.Str.{IsUtf8}
-use Rattle.formatx.specs.Fault.{Fault, ◌>>=◌, Tells, missing, span, unreadable, unreadable_at, unsupported}
+use Rattle.formatx.specs.Fault.{Fault, ◌>>=◌, Tells, missing, span, unreadable, unsupported}
 use Rattle.formatx.specs.Words.{ends_at, has, is_word, is_word_start, run_end, usize_of, text_between}
 use Rattle.formatx.specs.Options.{alternate_at, fill_align_at, sign_at, zero_at, count_at, counted_precision_at, number_between, number_count_at, precision_at, type_at}
-use Rattle.formatx.specs.Segments.{argument_at, follows_argument, close_at, closed_at, open_at, options_at, placeholder_at, segment_at, segments_from, segments_of, spec_at}
-use Rattle.formatx.specs.Grammar.{IsNoTemplate, Refuses}
+use Rattle.formatx.specs.Segments.{argument_at, follows_argument, closed_at, options_at, placeholder_at, segment_at, segments_from, segments_of, spec_at}
+use Rattle.formatx.specs.Grammar.{Refuses}
 use Rattle.formatx.specs.declared.ast.Argument.{Argument}
 use Rattle.formatx.specs.declared.ast.Count.{Count}
 use Rattle.formatx.specs.declared.ast.FormatSpec.{FormatSpec}

@@ -1,16 +1,16 @@
 -- A fill and an alignment are read as what they spell: no other byte of the options is an alignment.
-use Rattle.std.proofs.Common.{◌≡◌, ◌≢◌, ◌==◌, ℕ, zero, suc, ◌+◌, ◌<◌, ◌≤◌, Bool, true, false, not, ◌&&◌, ◌||◌, eqb, ltb, List, [], ◌∷◌, ◌++◌, length, take, drop, get_or, Option, Some, None, slice_index, refl, sym, ap, ◌∙◌, subst, arith, append_assoc, if◌then◌else◌}
+use Rattle.std.proofs.Common.{◌≡◌, ◌≢◌, ◌==◌, ℕ, ◌+◌, ◌<◌, Bool, true, false, not, ◌&&◌, ◌||◌, List, [], ◌∷◌, ◌++◌, length, drop, get_or, Option, Some, None, slice_index, refl, sym, ap, ◌∙◌, arith, append_assoc}
 use Rattle.std.specs.Prelude.{encode_utf8, nat_lt}
-use Rattle.std.specs.Char.{IsScalar, is_ascii_digit, len_utf8}
+use Rattle.std.specs.Char.{is_ascii_digit, len_utf8}
 use Rattle.std.specs.List.{list_all}
-use Rattle.std.specs.Str.{IsUtf8, chars}
+use Rattle.std.specs.Str.{IsUtf8}
 use Rattle.std.proofs.lemmas.Bool.{and_parts}
 use Rattle.std.proofs.lemmas.Bool.Decides.{nat_tests}
 use Rattle.std.proofs.lemmas.List.{length-append, length-drop}
 use Rattle.std.proofs.lemmas.Str.{chars_past_char, char_from_byte, encode_ascii, length-encode, len_utf8_bounds, len_utf8_ascii}
 use Rattle.formatx.specs.Words.{ends_at, has, is_word}
 use Rattle.formatx.specs.Options.{align_of, char_at, fill_align_at}
-use Rattle.formatx.specs.Grammar.{IsNumber, IsName, IsCount, IsWidth, IsPrecision, fill_mark, align_mark, sign_mark, alternate_mark, zero_mark, type_mark, CanFill}
+use Rattle.formatx.specs.Grammar.{IsCount, IsWidth, IsPrecision, fill_mark, align_mark, sign_mark, alternate_mark, zero_mark, type_mark, CanFill}
 use Rattle.formatx.specs.declared.ast.Align.{Align}
 use Rattle.formatx.specs.declared.ast.Align.TheVariants.{Left, Center, Right}
 use Rattle.formatx.specs.declared.ast.Sign.{Sign}

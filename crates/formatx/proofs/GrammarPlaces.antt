@@ -1,5 +1,5 @@
 -- What stands at a place of a source, and the runs there.
-use Rattle.std.proofs.Common.{◌≡◌, ℕ, zero, suc, ◌+◌, ◌-◌, ◌<◌, ◌≤◌, Bool, true, false, cond, eqb, ltb, List, [], ◌∷◌, ◌++◌, length, take, drop, get_or, slice_index, refl, arith, ap, ◌∙◌, sym, subst, add-one, one-add, append_assoc}
+use Rattle.std.proofs.Common.{◌≡◌, ℕ, zero, suc, ◌+◌, ◌-◌, ◌<◌, Bool, true, false, ltb, List, [], ◌∷◌, ◌++◌, length, take, drop, get_or, slice_index, refl, arith, ap, ◌∙◌, sym, subst, add-one, one-add, append_assoc}
 use Rattle.std.proofs.Math.Seq.{drop-nil, drop-cons, take-append_seam, drop-append_seam}
 use Rattle.std.proofs.lemmas.Bool.{and_parts}
 use Rattle.std.proofs.lemmas.List.{get_or-drop, get_or_past, length-append, length-drop, take-append-drop}

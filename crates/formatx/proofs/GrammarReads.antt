@@ -1,20 +1,15 @@
 -- Each spelling of the options is read as what it spells, whatever follows the placeholder.
-use Rattle.std.proofs.Common.{◌≡◌, ◌≢◌, ◌==◌, ℕ, zero, suc, ◌+◌, ◌<◌, ◌≤◌, Bool, true, false, not, ◌&&◌, ◌||◌, eqb, ltb, List, [], ◌∷◌, ◌++◌, length, take, drop, get_or, Option, Some, None, Result, Ok, Err, codes, slice_index, refl, sym, ap, ◌∙◌, subst, arith, append_assoc, if◌then◌else◌}
-use Rattle.std.specs.Prelude.{encode_utf8, nat_lt}
-use Rattle.std.specs.Char.{IsScalar, is_ascii_digit, len_utf8}
-use Rattle.std.specs.List.{concat, list_all, prefix_len}
-use Rattle.std.specs.Str.{IsUtf8, chars}
+use Rattle.std.proofs.Common.{◌≡◌, ◌==◌, ℕ, ◌+◌, Bool, true, false, ◌||◌, List, [], ◌∷◌, ◌++◌, length, drop, get_or, Option, Some, None, Ok, codes, slice_index, refl, sym, ap, ◌∙◌, arith, append_assoc, if◌then◌else◌}
+use Rattle.std.specs.Char.{is_ascii_digit}
+use Rattle.std.specs.List.{list_all, prefix_len}
 use Rattle.std.proofs.lemmas.Bool.{and_parts}
 use Rattle.std.proofs.lemmas.Bool.Decides.{nat_tests}
 use Rattle.std.proofs.lemmas.List.{get_or-drop, length-append}
-use Rattle.std.proofs.lemmas.Str.{chars_past_char, char_from_byte, encode_ascii, length-encode, len_utf8_bounds, len_utf8_ascii}
-use Rattle.formatx.specs.Fault.{Fault, ◌>>=◌, span}
-use Rattle.formatx.specs.Words.{ends_at, has, run_end, text_between, is_type_start, is_word, is_word_start, usize_of}
-use Rattle.formatx.specs.Options.{align_of, alternate_at, char_at, count_at, fill_align_at, number_between, number_count_at, precision_at, sign_at, type_at, zero_at}
-use Rattle.formatx.specs.Grammar.{IsNumber, IsName, IsCount, IsWidth, IsPrecision, fill_mark, align_mark, sign_mark, alternate_mark, zero_mark, type_mark, CanFill, has_zero_flag}
+use Rattle.formatx.specs.Fault.{span}
+use Rattle.formatx.specs.Words.{ends_at, has, run_end, is_type_start, is_word, is_word_start, usize_of}
+use Rattle.formatx.specs.Options.{alternate_at, count_at, number_between, precision_at, sign_at, type_at, zero_at}
+use Rattle.formatx.specs.Grammar.{IsNumber, IsName, IsCount, IsWidth, IsPrecision, sign_mark, alternate_mark, zero_mark, type_mark, has_zero_flag}
 use Rattle.formatx.specs.declared.ast.Span.{Span}
-use Rattle.formatx.specs.declared.ast.Align.{Align}
-use Rattle.formatx.specs.declared.ast.Align.TheVariants.{Left, Center, Right}
 use Rattle.formatx.specs.declared.ast.Sign.{Sign}
 use Rattle.formatx.specs.declared.ast.Sign.TheVariants.{Plus, Minus}
 use Rattle.formatx.specs.declared.ast.Count.{Count}
@@ -24,7 +19,7 @@ use Rattle.formatx.specs.declared.ast.Precision.{Precision}
 use Rattle.formatx.specs.declared.ast.Precision.TheVariants.{Count as Counted, Star}
 use Rattle.formatx.specs.declared.ast.FormatType.{FormatType}
 use Rattle.formatx.specs.declared.ast.FormatType.TheVariants.{Display, Debug, DebugLowerHex, DebugUpperHex, Octal, LowerHex, UpperHex, Binary, LowerExp, UpperExp, Pointer}
-use Rattle.formatx.proofs.GrammarPlaces.{byte_after, byte_here, inside, join, move, no_end, no_run, run_here, between_here, concat_join, all_append, all_weaker}
+use Rattle.formatx.proofs.GrammarPlaces.{byte_after, byte_here, move, no_end, no_run, run_here, between_here}
 
 -- ---- the bytes that a part of the options can begin with, part by part from the last
 

@@ -1,5 +1,5 @@
 -- What is read is spelled by the text that was read: from the options up to the template.
-use Rattle.std.proofs.Common.{◌≡◌, ◌↔◌, ◌==◌, ℕ, zero, suc, ◌+◌, ◌<◌, ◌≤◌, inl, inr, Bool, true, false, ◌&&◌, ◌||◌, List, [], ◌∷◌, ◌++◌, length, take, drop, get_or, Result, Ok, Err, codes, slice_index, refl, sym, ap, ◌∙◌, subst, arith, append_assoc, if◌then◌else◌}
+use Rattle.std.proofs.Common.{◌≡◌, ◌==◌, ℕ, zero, suc, ◌+◌, ◌<◌, ◌≤◌, inl, inr, Bool, true, false, ◌&&◌, List, [], ◌∷◌, ◌++◌, length, take, drop, get_or, Ok, codes, slice_index, refl, sym, ap, ◌∙◌, subst, arith, append_assoc, if◌then◌else◌}
 use Rattle.std.specs.Prelude.{⊤}
 use Rattle.std.specs.Char.{is_ascii_digit}
 use Rattle.std.specs.List.{concat, list_all, prefix_len}
@@ -11,10 +11,10 @@ use Rattle.std.proofs.lemmas.List.{append-nil, get_or-drop, length-append, lengt
 use Rattle.std.proofs.lemmas.List.Folds.{length-prefix_len}
 use Rattle.std.proofs.lemmas.List.Sums.{prefix_len_stops}
 use Rattle.std.proofs.lemmas.Str.{IsUtf8-drop, IsCharBoundary-after_ascii}
-use Rattle.formatx.specs.Fault.{Fault, ◌>>=◌, span}
+use Rattle.formatx.specs.Fault.{span}
 use Rattle.formatx.specs.Words.{ends_at, has, is_plain, is_word, is_word_start, run_end}
 use Rattle.formatx.specs.Options.{alternate_at, count_at, fill_align_at, number_between, precision_at, sign_at, type_at, zero_at}
-use Rattle.formatx.specs.Segments.{argument_at, close_at, closed_at, follows_argument, open_at, options_at, placeholder_at, segment_at, segments_from, segments_of, spec_at}
+use Rattle.formatx.specs.Segments.{argument_at, closed_at, follows_argument, options_at, placeholder_at, segment_at, segments_from, segments_of, spec_at}
 use Rattle.formatx.specs.Spans.{no_options}
 use Rattle.formatx.specs.Grammar.{IsArgument, IsWidth, IsPrecision, IsOptions, IsSpec, IsPlaceholder, IsSegment, SpellsAt, AreApart, Spells, fill_mark, align_mark, sign_mark, alternate_mark, zero_mark, type_mark, has_zero_flag}
 use Rattle.formatx.specs.Laws.{ReadsTheGrammar, HasOneTree}
@@ -25,11 +25,10 @@ use Rattle.formatx.specs.declared.ast.FormatSpec.{FormatSpec}
 use Rattle.formatx.specs.declared.ast.Placeholder.{Placeholder}
 use Rattle.formatx.specs.declared.ast.Segment.{Segment}
 use Rattle.formatx.specs.declared.ast.Segment.TheVariants.{Literal, EscapedOpen, EscapedClose, Placeholder as Placed}
-use Rattle.formatx.proofs.GrammarPlaces.{Takes, byte_here, concat_join, has_inside, inside as in_source, join, move, run_passes, takes_byte, takes_more, takes_none, takes_run, takes_second}
+use Rattle.formatx.proofs.GrammarPlaces.{Takes, byte_here, concat_join, has_inside, inside as in_source, join, run_passes, takes_byte, takes_more, takes_none, takes_run, takes_second}
 use Rattle.formatx.proofs.GrammarReads.{zero_flag_seen, zero_test}
 use Rattle.formatx.proofs.GrammarSpelled.{bind_ok, err_ok, ok_same, fill_spelled, sign_spelled, alternate_spelled, zero_spelled, number_spelled, name_spelled, count_spelled, precision_spelled, type_spelled}
 use Rattle.formatx.proofs.GrammarComplete.{complete, segment_long}
-use Rattle.formatx.proofs.ReadLemmas.{segments_from-read, segments_from-end, segments_from-fault}
 
 -- four parts end to end, and five
 left4 : (a b c d : List ℕ) → a ++ b ++ c ++ d ≡ concat (a ∷ b ∷ c ∷ d ∷ [])

@@ -1,23 +1,20 @@
 -- What is read is spelled by the text that was read: the parts of the options.
-use Rattle.std.proofs.Common.{◌≡◌, ◌≢◌, ◌==◌, ℕ, zero, suc, ◌+◌, ◌-◌, ◌<◌, ◌≤◌, ◌⊎◌, inl, inr, Bool, true, false, not, ◌&&◌, ◌||◌, List, [], ◌∷◌, ◌++◌, length, take, drop, get_or, Option, Some, None, Result, Ok, Err, codes, slice_index, refl, sym, ap, ◌∙◌, subst, arith, append_assoc, one-add, if◌then◌else◌}
+use Rattle.std.proofs.Common.{◌≡◌, ◌≢◌, ℕ, ◌+◌, ◌-◌, ◌<◌, Bool, true, false, ◌&&◌, ◌||◌, List, [], ◌∷◌, ◌++◌, length, take, drop, Option, Some, None, Result, Ok, Err, codes, slice_index, refl, sym, ap, ◌∙◌, subst, arith, one-add, if◌then◌else◌}
 use Rattle.std.specs.Prelude.{encode_utf8, encode_utf8_all, ok_or}
 use Rattle.std.specs.Char.{IsScalar, is_ascii_digit, len_utf8}
-use Rattle.std.specs.List.{list_all, prefix_len}
+use Rattle.std.specs.List.{prefix_len}
 use Rattle.std.specs.Str.{IsUtf8, chars}
 use Rattle.std.proofs.lemmas.Bool.{and_parts, or_parts}
 use Rattle.std.proofs.lemmas.Bool.Decides.{nat_tests}
-use Rattle.std.proofs.lemmas.List.{length-append, length-drop}
+use Rattle.std.proofs.lemmas.List.{length-drop}
 use Rattle.std.proofs.lemmas.Str.{encodes-chars, scalars-chars, length-encode, byte_from_char}
 use Rattle.std.proofs.Math.Seq.{drop-append_seam}
-use Rattle.formatx.specs.Fault.{Fault, ◌>>=◌, span, unreadable_at}
-use Rattle.formatx.specs.Words.{ends_at, has, is_type_start, is_word, is_word_start, run_end, text_between, usize_of}
-use Rattle.formatx.specs.Options.{align_of, alternate_at, char_at, count_at, counted_precision_at, fill_align_at, filled_align, hex_at, lone_align, number_between, number_count_at, precision_at, sign_at, type_at, zero_at}
-use Rattle.formatx.specs.Grammar.{IsNumber, IsName, IsCount, IsWidth, IsPrecision, fill_mark, align_mark, sign_mark, alternate_mark, zero_mark, type_mark, CanFill}
-use Rattle.formatx.specs.declared.ast.Span.{Span}
+use Rattle.formatx.specs.Fault.{Fault, ◌>>=◌, span}
+use Rattle.formatx.specs.Words.{ends_at, has, is_word, is_word_start, run_end, text_between, usize_of}
+use Rattle.formatx.specs.Options.{align_of, alternate_at, char_at, count_at, counted_precision_at, fill_align_at, hex_at, lone_align, number_between, number_count_at, precision_at, sign_at, type_at, zero_at}
+use Rattle.formatx.specs.Grammar.{IsNumber, IsName, IsWidth, IsPrecision, fill_mark, align_mark, sign_mark, alternate_mark, zero_mark, type_mark, CanFill}
 use Rattle.formatx.specs.declared.ast.Align.{Align}
 use Rattle.formatx.specs.declared.ast.Align.TheVariants.{Left, Center, Right}
-use Rattle.formatx.specs.declared.ast.Sign.{Sign}
-use Rattle.formatx.specs.declared.ast.Sign.TheVariants.{Plus, Minus}
 use Rattle.formatx.specs.declared.ast.Count.{Count}
 use Rattle.formatx.specs.declared.ast.Count.TheVariants.{Literal as Number, Param}
 use Rattle.formatx.specs.declared.ast.CountParam.TheVariants.{Positional, Named}
@@ -25,7 +22,7 @@ use Rattle.formatx.specs.declared.ast.Precision.{Precision}
 use Rattle.formatx.specs.declared.ast.Precision.TheVariants.{Count as Counted, Star}
 use Rattle.formatx.specs.declared.ast.FormatType.{FormatType}
 use Rattle.formatx.specs.declared.ast.FormatType.TheVariants.{Display, Debug, DebugLowerHex, DebugUpperHex, Octal, LowerHex, UpperHex, Binary, LowerExp, UpperExp, Pointer}
-use Rattle.formatx.proofs.GrammarPlaces.{Takes, byte_here, drop_drop, has_inside, move, run_passes, takes_byte, takes_more, takes_none, takes_run, takes_second}
+use Rattle.formatx.proofs.GrammarPlaces.{Takes, byte_here, drop_drop, run_passes, takes_byte, takes_more, takes_none, takes_run, takes_second}
 
 -- ---- results
 

@@ -1,7 +1,6 @@
 -- Which value a placeholder prints, and how many implicit positions it takes.
 use Rattle.std.specs.Prelude.{ℕ, false, List, slice_get, Option, Some, None, option_and_then}
 use Rattle.numerals.specs.Numeral.{numeral}
-use Rattle.formatx.specs.Fault.{missing}
 use Rattle.formatx.specs.Values.{Meaning}
 use Rattle.formatx.specs.declared.ast.Argument.{Argument}
 use Rattle.formatx.specs.declared.ast.Argument.TheVariants.{Implicit, Positional, Named}

@@ -1,6 +1,5 @@
 -- What a template is rendered over: its source, the values by position, and the names of some positions.
 use Rattle.std.specs.Prelude.{ℕ, Bool, List, [], ◌∷◌, map, string_bytes, bytes_eq, if◌then◌else◌, Option, Some, None}
-use Rattle.formatx.specs.Fault.{missing, span}
 use Rattle.formatx.specs.Words.{text_between}
 use Rattle.formatx.specs.Values.{Meaning}
 use Rattle.formatx.specs.declared.value.Name.{Name}

@@ -1,6 +1,6 @@
 -- Reading a template from the left: its segments, which are those that its text spells (`Grammar`), or else the first fault,
 -- with its span and its message.
-use Rattle.std.specs.Prelude.{ℕ, zero, suc, ◌+◌, Bool, false, ◌&&◌, ◌||◌, List, [], ◌∷◌, length, slice_index, codes, if◌then◌else◌, None, Result, Ok}
+use Rattle.std.specs.Prelude.{ℕ, zero, suc, ◌+◌, Bool, ◌&&◌, ◌||◌, List, [], ◌∷◌, length, slice_index, codes, if◌then◌else◌, Result, Ok}
 use Rattle.std.specs.Char.{is_ascii_digit}
 use Rattle.std.specs.Str.{byte}
 use Rattle.formatx.specs.Fault.{Fault, ◌>>=◌, span, unreadable_at}
