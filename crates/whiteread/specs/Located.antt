@@ -66,7 +66,7 @@ error_name (IoError TooLong) = codes "IoError(TooLong)"
 error_name (IoError CannotOpen) = codes "IoError(CannotOpen)"
 error_name NoMemory = codes "NoMemory"
 
--- 79 times `~`
+-- The rule is 79 times `~`.
 unfoldable pub rule : List ℕ
 rule = replicate 79 126
 

@@ -8,13 +8,14 @@ ghost use Rattle.whiteread.specs.Reading.{Reading, ReadCall, IsReading};
 mod containers;
 mod error;
 mod scalars;
-pub(crate) mod split;
+mod split;
 mod tuples;
 mod white;
 mod whole;
 
 pub use error::{Error, IoFault, Progress, Result};
 pub use split::SplitAsciiWhitespace;
+pub(crate) use split::find_word;
 use std::alloc::Global;
 pub(crate) use tuples::read_later;
 pub(crate) use whole::read_whole;

@@ -70,7 +70,8 @@ impl<B: Source> Reader<B> {
     }
 
     /// Reads a new line and lends it, its line feed included. Its words stay to be read. At the end of the input it
-    /// answers `TooShort(Nothing)`. Its errors are those of a value that reads nothing.
+    /// answers `TooShort(Nothing)`. Its errors are those of a value that reads nothing. A proof that needs to know the
+    /// reader after it calls `advance_line` and then `current_line`, which do the same.
     pub fn next_line(&mut self) -> Result<&str>
         ensures { LendsNext B.rest B.given B.faults B.reference self.old result }
     {

@@ -4,8 +4,7 @@ ghost use Rattle.whiteread.specs.ReaderWords.{reader_stream};
 ghost use Rattle.whiteread.specs.ReaderSteps.{LooksInLine, BeginsIn, word_answer};
 
 use crate::reader::Reader;
-use crate::stream::split::find_word;
-use crate::stream::{Result, StrStream};
+use crate::stream::{Result, StrStream, find_word};
 use edge_io::Source;
 
 impl<B: Source> Reader<B> {
