@@ -1,4 +1,5 @@
 pub mod Lines
+pub mod Reached
 pub mod Kinds
 pub mod Format
 pub mod Headers

@@ -60,8 +60,8 @@ pub record PassesLimit {B : Type 0} (rest : B → Option (List ℕ)) (given : B 
   pub past : reader_past new ≡ true
 
 -- The row is this one, and there is no current line.
-pub record HasNoLine {B : Type 0} (row : ℕ) (new : Reader B) : Type 0 where
-  pub row : reader_row new ≡ row
+pub record HasNoLine {B : Type 0} (number : ℕ) (new : Reader B) : Type 0 where
+  pub row : reader_row new ≡ number
   pub line : reader_line new ≡ []
 
 -- What stands after each answer: true after a line, false at the end of the input.

