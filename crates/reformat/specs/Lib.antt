@@ -10,3 +10,8 @@ pub mod Status
 pub mod Message
 pub mod Reformats
 pub mod Run
+pub mod Pieces
+pub mod Digits
+pub mod ElementRead
+pub mod NextLine
+pub mod Job
