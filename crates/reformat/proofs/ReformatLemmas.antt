@@ -54,7 +54,7 @@ ok_is rest given faults held sink_faults input input' output output' limit n job
       write_fault = λ e. absurd (cc);
       writes = job.writes;
       stopped = λ e. elim e [ inl w ↦ absurd (cc) | inr w ↦ absurd (cc) ];
-      complete = any_is (rest input) _ (λ bytes text written le a b. inl tt);
+      complete = any_is (rest input) _ (λ bytes text written le a b. inl refl);
     }
 
 -- what a refusal can be

@@ -99,10 +99,10 @@ job_row ends source template before old new batch batch' source' output output' 
 
 -- a batch that may have been written
 
-abbrev view : {B : Type 0} → B → List ℕ → ℕ → List ℕ → View B
+abbrev pub view : {B : Type 0} → B → List ℕ → ℕ → List ℕ → View B
 view source waiting room line = record { source = source; waiting = waiting; room = room; line = line }
 
-view_is : {B : Type 0} (s s' : B) (w w' : List ℕ) (r r' : ℕ) (l l' : List ℕ) → s' ≡ s → w' ≡ w → r' ≡ r → l' ≡ l → view s' w' r' l' ≡ view s w r l
+pub view_is : {B : Type 0} (s s' : B) (w w' : List ℕ) (r r' : ℕ) (l l' : List ℕ) → s' ≡ s → w' ≡ w → r' ≡ r → l' ≡ l → view s' w' r' l' ≡ view s w r l
 view_is s s' w w' r r' l l' p q x y = λ i. view (p i) (q i) (x i) (y i)
 
 same_view : {B : Type 0} (old new : Reader B) → ShowsSame old new → view_of new ≡ view_of old

@@ -1,5 +1,5 @@
 -- What a run of the rewriting job says, over a source and a sink before and after it.
-use Rattle.std.specs.Prelude.{◌≡◌, ◌<◌, ◌≤◌, ◌⊎◌, ◌+◌, ◌-◌, ◌↔◌, ℕ, List, ◌++◌, Option, length, take, IfSome, OnOk, IfOk, IfErr, Result, Ok, Err, IsErrOf}
+use Rattle.std.specs.Prelude.{◌≡◌, ◌<◌, ◌≤◌, ◌⊎◌, ◌+◌, ◌-◌, ◌↔◌, ℕ, List, ◌++◌, Option, length, take, IfSome, OnOk, IfOk, IfErr, Result, Ok, Err, IsOk, IsErrOf}
 use Rattle.std.specs.Io.KnownBytes.{Appends, IsAtEnd}
 use Rattle.edge_io.specs.Ends.{Rises, AppendsFront}
 use Rattle.reformat.specs.declared.error.ReformatError.{ReformatError}
@@ -67,4 +67,4 @@ pub record Reformats {S K : Type 0} (rest : S → Option (List ℕ)) (given faul
   pub stopped : IsErrOf result WriteFault ⊎ IsErrOf result NoMemory → IfSome (rest input) (λ bytes. WroteSome (held output) (held output') (reached_lines limit bytes))
   -- completeness: input that keeps the rules and the limit is rewritten, where no fault was counted and memory was there
   pub complete : IfSome (rest input) (λ bytes. (text : List ℕ) → IsRewritten bytes text → length bytes ≤ limit → ¬ Rises (faults input) (faults input') → ¬ Rises (sink_faults output) (sink_faults output')
-      → OnOk result (Unit {0}) ⊎ IsErrOf result NoMemory)
+      → IsOk result ⊎ IsErrOf result NoMemory)

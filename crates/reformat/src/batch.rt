@@ -1,5 +1,5 @@
 // Texts of rows that are written together.
-ghost use Rattle.std.specs.Prelude.{◌≡◌, [], IfErr, OnOk};
+ghost use Rattle.std.specs.Prelude.{◌≡◌, ◌≢◌, [], IfErr, OnOk};
 ghost use Rattle.std.specs.Io.KnownBytes.{Appends};
 ghost use Rattle.edge_io.specs.Ends.{Rises, AppendsFront};
 ghost use Rattle.reformat.specs.Job.{SentIfDue};
@@ -16,7 +16,7 @@ pub(crate) fn send<K: Sink>(output: &mut K, batch: &mut Vec<u8>) -> Result<(), R
     ensures ok { OnOk result (Appends (K.held output.old) (K.held output.new) batch.old.items) }
     ensures no_fault { OnOk result (K.faults output.new ≡ K.faults output.old) }
     ensures sent { OnOk result (batch.new.items ≡ []) }
-    ensures none { batch.old.items ≡ [] → OnOk result (Unit {0}) }
+    ensures some { IfErr result (λ _. batch.old.items ≢ []) }
     ensures why { IfErr result (λ why. why ≡ ReformatError.WriteFault) }
     ensures fault { IfErr result (λ _. Rises (K.faults output.old) (K.faults output.new)) }
     ensures front { IfErr result (λ _. AppendsFront (K.held output.old) (K.held output.new) batch.old.items) }
