@@ -2,8 +2,11 @@
 use Rattle.std.proofs.Common.{◌≡◌, ℕ, ◌+◌, true, false, List, [], ◌∷◌, Option, Some, None, Result, Ok, Err, refl, ap, IsSome}
 use Rattle.formatx.specs.Fault.{Fault, ◌>>=◌}
 use Rattle.formatx.specs.Values.{Meaning}
-use Rattle.formatx.specs.Text.{Scene, argument_text, precision_of, precision_takes, rendered, segment_takes, segment_text, value_at, whole}
-use Rattle.formatx.specs.Laws.{AllHaveValues, FinishesAgree, HasValue, with_strict}
+use Rattle.formatx.specs.Scene.{Scene}
+use Rattle.formatx.specs.Counts.{precision_of}
+use Rattle.formatx.specs.Arguments.{precision_takes, value_at}
+use Rattle.formatx.specs.Text.{argument_text, rendered, segment_takes, segment_text, whole}
+use Rattle.formatx.specs.Laws.{AllHaveValues, FinishesAgree, HasValue, MissingIsEmpty, with_strict}
 use Rattle.formatx.specs.declared.ast.Placeholder.{Placeholder}
 use Rattle.formatx.specs.declared.ast.Segment.{Segment}
 use Rattle.formatx.specs.declared.ast.Segment.TheVariants.{Literal, EscapedOpen, EscapedClose, Placeholder as Placed}
@@ -33,3 +36,6 @@ rendered_same scene next (s ∷ ss) h =
 
 pub finishes_agree : FinishesAgree
 finishes_agree scene segments e h = rw e (ap whole (rendered_same scene 0 segments h))
+
+pub missing_is_empty : MissingIsEmpty
+missing_is_empty scene next p precision read none = (rw (read, none) refl, rw (read, none) refl)

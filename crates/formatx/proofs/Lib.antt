@@ -1,6 +1,13 @@
 pub mod Rows
 pub mod Runs
 pub mod ReadLemmas
+pub mod GrammarPlaces
+pub mod GrammarReads
+pub mod GrammarFill
+pub mod GrammarComplete
+pub mod GrammarSpelled
+pub mod GrammarSound
+pub mod GrammarFaults
 pub mod PrintLemmas
 pub mod CharLemmas
 pub mod LawLemmas

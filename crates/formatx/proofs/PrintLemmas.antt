@@ -3,7 +3,8 @@ use Rattle.std.proofs.Common.{◌≡◌, ℕ, suc, ◌+◌, ◌<◌, List, [], �
 use Rattle.std.proofs.Math.Seq.{drop-cons}
 use Rattle.std.proofs.lemmas.List.{append-nil}
 use Rattle.formatx.specs.Fault.{Fault, Tells}
-use Rattle.formatx.specs.Text.{Scene, Outcome, Appends, Holds, continued, rendered, segment_takes, segment_text, whole}
+use Rattle.formatx.specs.Scene.{Scene}
+use Rattle.formatx.specs.Text.{Outcome, Appends, Holds, continued, rendered, segment_takes, segment_text, whole}
 use Rattle.formatx.specs.declared.ast.Segment.{Segment}
 use Rattle.formatx.specs.declared.error.Error.{Error}
 use Rattle.formatx.specs.declared.error.Error.TheVariants.{Parse, MissingArgument, UnsupportedTrait, NoMemory}

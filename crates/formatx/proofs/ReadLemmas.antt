@@ -52,19 +52,19 @@ after-push front s (Ok ss) = ap (λ (xs : List Segment). let r : Result (List Se
 after-push front s (Err e) = refl
 
 -- the segments from a place where one stands
-segments_from-read : (room : ℕ) (source : List ℕ) (i j : ℕ) (s : Segment) → i < length source → segment_at source i ≡ Ok (s, j) → segments_from (suc room) source i ≡ (segments_from room source j >>= λ rest. Ok (s ∷ rest))
+pub segments_from-read : (room : ℕ) (source : List ℕ) (i j : ℕ) (s : Segment) → i < length source → segment_at source i ≡ Ok (s, j) → segments_from (suc room) source i ≡ (segments_from room source j >>= λ rest. Ok (s ∷ rest))
 unfolding segments_from
 segments_from-read room source i j s inside e =
     let test : ends_at source i ≡ false = grind (arith, nat_tests) in
     rw (test, e) refl
 
-segments_from-fault : (room : ℕ) (source : List ℕ) (i : ℕ) (fault : Fault) → i < length source → segment_at source i ≡ Err fault → segments_from (suc room) source i ≡ Err fault
+pub segments_from-fault : (room : ℕ) (source : List ℕ) (i : ℕ) (fault : Fault) → i < length source → segment_at source i ≡ Err fault → segments_from (suc room) source i ≡ Err fault
 unfolding segments_from
 segments_from-fault room source i fault inside e =
     let test : ends_at source i ≡ false = grind (arith, nat_tests) in
     rw (test, e) refl
 
-segments_from-end : (room : ℕ) (source : List ℕ) (i : ℕ) → length source ≤ i → segments_from room source i ≡ Ok []
+pub segments_from-end : (room : ℕ) (source : List ℕ) (i : ℕ) → length source ≤ i → segments_from room source i ≡ Ok []
 unfolding segments_from
 segments_from-end zero source i h = refl
 segments_from-end (suc room) source i h =

@@ -10,6 +10,7 @@ use Rattle.formatx.specs.Segments.{segments_from, segments_of, placeholder_at, s
 use Rattle.formatx.specs.Values.{Meaning, integer_meaning, str_meaning}
 use Rattle.formatx.specs.Text.{formatted, formatted_by_position}
 use Rattle.formatx.specs.declared.ast.FormatType.TheVariants.{LowerHex}
+use Rattle.formatx.specs.declared.ast.Segment.TheVariants.{EscapedOpen, EscapedClose}
 
 abbrev n : ℕ → Meaning
 n k = integer_meaning (pos k) k
@@ -71,6 +72,10 @@ row6c = refl
 row6d : segments_of (codes "a}") ≡ Err (unreadable (span 1 2) (codes "unmatched `}`"))
 unfolding segments_from placeholder_at spec_at options_at argument_at count_at precision_at type_at chars encode_utf8 numeral
 row6d = refl
+
+row6e : segments_of (codes "{{}}") ≡ Ok (EscapedOpen ∷ EscapedClose ∷ [])
+unfolding segments_from placeholder_at spec_at options_at argument_at count_at precision_at type_at chars encode_utf8 numeral
+row6e = refl
 
 row7 : formatted_by_position (codes "{:?}") (str_meaning (97 ∷ 34 ∷ 0xc3 ∷ 0xa9 ∷ []) ∷ []) ≡ Ok (34 ∷ 97 ∷ 92 ∷ 34 ∷ 0xc3 ∷ 0xa9 ∷ 34 ∷ [])
 unfolding segments_from placeholder_at spec_at options_at argument_at count_at precision_at type_at chars encode_utf8 numeral

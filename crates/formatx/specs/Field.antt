@@ -60,9 +60,11 @@ by_shape Integer false gap = record { left = gap; zeros = 0; right = 0 }
 by_shape Text zero gap = record { left = 0; zeros = 0; right = gap }
 by_shape Raw zero gap = record { left = 0; zeros = 0; right = 0 }
 
+-- whether a fill or an alignment is given
 abbrev pub is_aligned : FormatSpec → Bool
 is_aligned spec = is_some spec.fill || is_some spec.align
 
+-- a fill or an alignment pads every shape, and without both the shape says how
 abbrev pub padding_of : FormatSpec → Shape → ℕ → Padding
 padding_of spec shape gap = if is_aligned spec then aligned spec.align gap else by_shape shape spec.zero_pad gap
 
@@ -80,13 +82,14 @@ abbrev pub padded : FormatSpec → Shape → Option ℕ → Body → List ℕ
 padded spec shape width body =
     laid_out (unwrap_or spec.fill (byte " ")) (padding_of spec shape (gap_of width body)) body
 
--- the text and the shape of a value under a type; in hexadecimal the text is raw
+-- the text of a value under a type
 abbrev pub text_by : FormatType → Meaning → List ℕ
 text_by Debug m = m.debug Plain
 text_by DebugLowerHex m = m.debug LowerHex
 text_by DebugUpperHex m = m.debug UpperHex
 text_by _ m = m.display
 
+-- the shape of that text; in hexadecimal it is raw
 abbrev pub shape_by : FormatType → Meaning → Shape
 shape_by Debug m = m.debug_shape
 shape_by DebugLowerHex m = Raw
@@ -97,5 +100,6 @@ shape_by _ m = m.display_shape
 abbrev pub shaped : FormatSpec → Shape → Option ℕ → Option ℕ → List ℕ → List ℕ
 shaped spec shape width precision text = padded spec shape width (body_of shape spec.sign precision text)
 
+-- the text of one value under a specification, whose type says which of the value's texts it is
 abbrev pub field_text : FormatSpec → Meaning → Option ℕ → Option ℕ → List ℕ
 field_text spec m width precision = shaped spec (shape_by spec.format_type m) width precision (text_by spec.format_type m)

@@ -1,12 +1,18 @@
 -- Laws of templates, each carried by a function of the crate with an empty body.
-use Rattle.std.specs.Prelude.{◌≡◌, ◌≤◌, ◌+◌, ℕ, Bool, true, false, List, [], ◌∷◌, length, chars, IsSome, IfSome, IsUtf8, Option, Some, Ok, ⊤}
+use Rattle.std.specs.Prelude.{◌≡◌, ◌↔◌, ◌≤◌, ◌+◌, ℕ, Bool, true, false, List, [], ◌∷◌, length, chars, IsSome, IfSome, IsUtf8, Option, Some, None, Ok, Err, ⊤}
 use Rattle.std.specs.Char.{IsScalar}
+use Rattle.formatx.specs.Fault.{missing}
 use Rattle.formatx.specs.Segments.{segments_of}
+use Rattle.formatx.specs.Grammar.{Spells}
 use Rattle.formatx.specs.Values.{Meaning}
 use Rattle.formatx.specs.Field.{field_text}
-use Rattle.formatx.specs.Text.{Scene, formatted, precision_takes, segment_takes, value_at}
+use Rattle.formatx.specs.Scene.{Scene}
+use Rattle.formatx.specs.Counts.{precision_of}
+use Rattle.formatx.specs.Arguments.{argument_name, precision_takes, value_at}
+use Rattle.formatx.specs.Text.{formatted, segment_takes, segment_text}
 use Rattle.formatx.specs.declared.ast.FormatSpec.{FormatSpec}
 use Rattle.formatx.specs.declared.ast.FormatType.TheVariants.{Display}
+use Rattle.formatx.specs.declared.ast.Placeholder.{Placeholder}
 use Rattle.formatx.specs.declared.ast.Segment.{Segment}
 use Rattle.formatx.specs.declared.ast.Segment.TheVariants.{Literal, EscapedOpen, EscapedClose, Placeholder as Placed}
 use Rattle.formatx.specs.declared.value.Shape.TheVariants.{Raw}
@@ -32,7 +38,23 @@ abbrev pub FinishesAgree : Type 0
 FinishesAgree = (scene : Scene) (segments : List Segment) → segments_of scene.source ≡ Ok segments → AllHaveValues scene 0 segments
     → formatted (with_strict scene true) ≡ formatted (with_strict scene false)
 
+-- where a placeholder's value isn't there, and its precision is, a lenient finish has the empty text in its place, and a
+-- strict one refuses it by its name and its span
+abbrev pub MissingIsEmpty : Type 0
+MissingIsEmpty = (scene : Scene) (next : ℕ) (p : Placeholder) (precision : Option ℕ) → let own = next + precision_takes p.spec.precision in
+    precision_of scene next p.spec.precision ≡ Ok precision → value_at scene own p.argument ≡ None
+    → (segment_text (with_strict scene false) next (Placed p) ≡ Ok [])
+    × (segment_text (with_strict scene true) next (Placed p) ≡ Err (missing (argument_name scene.source own p.argument) p.span))
+
 -- a printed field whose shape isn't raw has at least its width in characters
 abbrev pub FieldsAreWide : Type 0
 FieldsAreWide = (spec : FormatSpec) (m : Meaning) (width : ℕ) (precision : Option ℕ) → spec.format_type ≡ Display → IfSome spec.fill IsScalar
     → IsUtf8 m.display → ¬ (m.display_shape ≡ Raw) → width ≤ length (chars (field_text spec m (Some width) precision))
+
+-- a template is read into segments exactly where its text spells them
+abbrev pub ReadsTheGrammar : Type 0
+ReadsTheGrammar = (source : List ℕ) (segments : List Segment) → IsUtf8 source → (segments_of source ≡ Ok segments ↔ Spells source segments)
+
+-- a text spells the segments of one template at most
+abbrev pub HasOneTree : Type 0
+HasOneTree = (source : List ℕ) (these those : List Segment) → IsUtf8 source → Spells source these → Spells source those → these ≡ those

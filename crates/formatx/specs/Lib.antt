@@ -1,10 +1,14 @@
 pub mod Fault
 pub mod Words
+pub mod Spans
+pub mod Grammar
 pub mod Options
 pub mod Segments
-pub mod Spans
 pub mod Values
 pub mod Field
+pub mod Scene
+pub mod Counts
+pub mod Arguments
 pub mod Text
 pub mod Templates
 pub mod Laws

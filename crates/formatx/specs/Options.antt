@@ -1,5 +1,5 @@
--- The specification of a placeholder: its parts in order, each optional, each at the place where the one before it ends.
--- A part is given with the place where it ends.
+-- Reading a specification from the left: each part with the place where it ends, or the first fault, with its span and its
+-- message.
 use Rattle.std.specs.Prelude.{ℕ, ◌+◌, Bool, true, false, ◌&&◌, ◌||◌, List, slice_index, drop, chars, codes, encode_utf8, ◌==◌, if◌then◌else◌, Option, Some, None, ok_or, not, Result, Ok}
 use Rattle.std.specs.Char.{is_ascii_digit, len_utf8}
 use Rattle.std.specs.Str.{byte}

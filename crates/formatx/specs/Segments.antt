@@ -1,14 +1,15 @@
--- A template: literals, escaped braces and placeholders, end to end, or the first fault from the left.
-use Rattle.std.specs.Prelude.{ℕ, zero, suc, ◌+◌, Bool, false, ◌&&◌, ◌||◌, List, [], ◌∷◌, length, slice_index, codes, if◌then◌else◌, None, Result, Ok}
+-- Reading a template from the left: its segments, which are those that its text spells (`Grammar`), or else the first fault,
+-- with its span and its message.
+use Rattle.std.specs.Prelude.{ℕ, zero, suc, ◌+◌, Bool, ◌&&◌, ◌||◌, List, [], ◌∷◌, length, slice_index, codes, if◌then◌else◌, Result, Ok}
 use Rattle.std.specs.Char.{is_ascii_digit}
 use Rattle.std.specs.Str.{byte}
 use Rattle.formatx.specs.Fault.{Fault, ◌>>=◌, span, unreadable_at}
 use Rattle.formatx.specs.Words.{has, ends_at, run_end, is_plain, is_word_start, is_word}
+use Rattle.formatx.specs.Spans.{no_options}
 use Rattle.formatx.specs.Options.{fill_align_at, sign_at, alternate_at, zero_at, number_between, count_at, precision_at, type_at}
 use Rattle.formatx.specs.declared.ast.Argument.{Argument}
 use Rattle.formatx.specs.declared.ast.Argument.TheVariants.{Implicit, Positional, Named}
 use Rattle.formatx.specs.declared.ast.FormatSpec.{FormatSpec}
-use Rattle.formatx.specs.declared.ast.FormatType.TheVariants.{Display}
 use Rattle.formatx.specs.declared.ast.Segment.{Segment}
 use Rattle.formatx.specs.declared.ast.Segment.TheVariants.{Literal, EscapedOpen, EscapedClose, Placeholder as Placed}
 
@@ -28,10 +29,6 @@ argument_at source i =
     (if is_word_start (slice_index source i) && follows_argument source name_end
     then Ok (Named (span i name_end), name_end)
     else unreadable_at i (i + 1) (codes "invalid placeholder argument"))))
-
--- no options at all, and Display
-abbrev pub no_options : FormatSpec
-no_options = record { fill = None; align = None; sign = None; alternate = false; zero_pad = false; width = None; precision = None; format_type = Display }
 
 -- the parts of a specification in their order
 unfoldable pub options_at : List ℕ → ℕ → Result (FormatSpec × ℕ) Fault

@@ -1,8 +1,9 @@
--- Where the parts of a template stand in its source.
+-- Where the parts of a template stand in its source, and what stands for no options.
 use Rattle.std.specs.Prelude.{◌≡◌, ◌≤◌, ◌<◌, ℕ, ◌+◌, List, [], ◌∷◌, All, None, false, MatchOption, ⊤}
 use Rattle.std.specs.Str.{IsCharBoundary}
 use Rattle.formatx.specs.declared.ast.Span.{Span}
 use Rattle.formatx.specs.declared.ast.FormatSpec.{FormatSpec}
+use Rattle.formatx.specs.declared.ast.FormatType.TheVariants.{Display}
 use Rattle.formatx.specs.declared.ast.Argument.{Argument}
 use Rattle.formatx.specs.declared.ast.Argument.TheVariants as Of
 use Rattle.formatx.specs.declared.ast.Count.{Count}
@@ -20,16 +21,19 @@ pub record SpanFits (source : List ℕ) (s : Span) : Type 0 where
   pub from : IsCharBoundary source s.start
   pub to : IsCharBoundary source s.end
 
+-- the span of an argument's name fits the text
 abbrev pub ArgumentFits : List ℕ → Argument → Type 0
 ArgumentFits source Of.Implicit = ⊤
 ArgumentFits source (Of.Positional n) = ⊤
 ArgumentFits source (Of.Named s) = SpanFits source s
 
+-- the span of a count's name fits the text
 abbrev pub CountFits : List ℕ → Count → Type 0
 CountFits source (Number n) = ⊤
 CountFits source (Param (Positional n)) = ⊤
 CountFits source (Param (Named s)) = SpanFits source s
 
+-- the span of a precision's name fits the text
 abbrev pub PrecisionFits : List ℕ → Precision → Type 0
 PrecisionFits source (Counted c) = CountFits source c
 PrecisionFits source Star = ⊤
@@ -45,6 +49,7 @@ pub record PlaceholderFits (source : List ℕ) (p : Placeholder) : Type 0 where
   pub argument : ArgumentFits source p.argument
   pub spec : SpecFits source p.spec
 
+-- each span of the segment fits the text
 abbrev pub SegmentFits : List ℕ → Segment → Type 0
 SegmentFits source (Literal s) = SpanFits source s
 SegmentFits source EscapedOpen = ⊤
@@ -83,3 +88,7 @@ pub record HasNoOptions (spec : FormatSpec) : Type 0 where
   pub zero_pad : spec.zero_pad ≡ false
   pub width : spec.width ≡ None
   pub precision : spec.precision ≡ None
+
+-- no options at all, and Display
+abbrev pub no_options : FormatSpec
+no_options = record { fill = None; align = None; sign = None; alternate = false; zero_pad = false; width = None; precision = None; format_type = Display }

@@ -4,7 +4,7 @@ use Rattle.formatx.specs.Fault.{Fault}
 use Rattle.formatx.specs.Segments.{segments_of}
 use Rattle.formatx.specs.Spans.{Fits}
 use Rattle.formatx.specs.Values.{Meaning}
-use Rattle.formatx.specs.Text.{NamedPosition, Scene, covered}
+use Rattle.formatx.specs.Scene.{NamedPosition, Scene, covered}
 use Rattle.formatx.specs.declared.ast.Argument.{Argument}
 use Rattle.formatx.specs.declared.ast.Argument.TheVariants.{Implicit, Positional, Named}
 use Rattle.formatx.specs.declared.ast.Segment.{Segment}
@@ -31,6 +31,7 @@ argument_names source Implicit = []
 argument_names source (Positional i) = []
 argument_names source (Named s) = covered source s ∷ []
 
+-- the name of a segment's argument, if it is a placeholder whose argument has one
 abbrev pub segment_names : List ℕ → Segment → List (List ℕ)
 segment_names source (Placed p) = argument_names source p.argument
 segment_names source (Literal s) = []
@@ -47,5 +48,6 @@ abbrev pub names_or_none : List ℕ → Result (List Segment) Fault → List (Li
 names_or_none source (Ok segments) = names_in source segments
 names_or_none source (Err fault) = []
 
+-- the names in a source, which are none outside the grammar
 abbrev pub names_of : List ℕ → List (List ℕ)
 names_of source = names_or_none source (segments_of source)

@@ -29,10 +29,12 @@ integer_debug n bits UpperHex = numeral 16 true bits
 abbrev pub integer_meaning : ℤ → ℕ → Meaning
 integer_meaning n bits = record { display = decimal_of n; debug = integer_debug n bits; display_shape = Integer; debug_shape = Integer }
 
+-- a truth value is written in words
 abbrev pub bool_text : Bool → List ℕ
 bool_text true = codes "true"
 bool_text false = codes "false"
 
+-- a truth value is a text, the same for debugging
 abbrev pub bool_meaning : Bool → Meaning
 bool_meaning b = record { display = bool_text b; debug = λ _. bool_text b; display_shape = Text; debug_shape = Text }
 
@@ -55,9 +57,11 @@ quoted quote cs = quote ∷ flat_map (escaped quote) cs ++ quote ∷ []
 abbrev pub text_meaning : ℕ → List ℕ → Meaning
 text_meaning quote text = record { display = text; debug = λ _. quoted quote (chars text); display_shape = Text; debug_shape = Raw }
 
+-- a text is quoted by `"`
 abbrev pub str_meaning : List ℕ → Meaning
 str_meaning text = text_meaning (byte "\"") text
 
+-- a character is quoted by `'`
 abbrev pub char_meaning : ℕ → Meaning
 char_meaning c = text_meaning (byte "'") (encode_utf8 c)
 

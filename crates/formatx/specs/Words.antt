@@ -25,10 +25,11 @@ text_between source i j = take (j - i) (drop i source)
 abbrev pub is_plain : ℕ → Bool
 is_plain c = not (c == byte "{" || c == byte "}")
 
--- a byte that an identifier begins with, and one that it goes on with
+-- a byte that an identifier begins with
 abbrev pub is_word_start : ℕ → Bool
 is_word_start c = is_ascii_alphabetic c || c == byte "_"
 
+-- a byte that an identifier goes on with
 abbrev pub is_word : ℕ → Bool
 is_word c = is_ascii_alphanumeric c || c == byte "_"
 

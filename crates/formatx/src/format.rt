@@ -6,7 +6,10 @@ ghost use Rattle.numerals.specs.Numeral.{numeral};
 ghost use Rattle.formatx.specs.Fault.{Answers, Tells};
 ghost use Rattle.formatx.specs.Spans.{ArgumentFits, CountFits, Fits, PlaceholderFits, PrecisionFits, SegmentFits, SpanFits};
 ghost use Rattle.formatx.specs.Field.{aligned, body_of, by_shape, copies, cut, field_text, gap_of, is_aligned, laid_out, number_body, padding_of, shape_by, shaped, sign_text, text_by};
-ghost use Rattle.formatx.specs.Text.{Appends, Holds, argument_name, argument_takes, count_at_position, count_of, covered, named_position, number_of, placeholder_text, position_at, position_of, precision_of, precision_takes, present_text, rendered, scene_of, scene_over, segment_takes, segment_text, star_precision, argument_text, supported, value_at, whole, width_of};
+ghost use Rattle.formatx.specs.Scene.{covered, named_position, position_of, scene_of, scene_over};
+ghost use Rattle.formatx.specs.Counts.{count_at_position, count_of, number_of, precision_of, star_precision, width_of};
+ghost use Rattle.formatx.specs.Arguments.{argument_name, argument_takes, position_at, precision_takes, value_at};
+ghost use Rattle.formatx.specs.Text.{Appends, Holds, placeholder_text, present_text, rendered, segment_takes, segment_text, argument_text, supported, whole};
 
 use crate::ast::{
     Align, Argument, Count, CountParam, FormatSpec, FormatString, FormatType, Placeholder,

@@ -5,6 +5,7 @@ ghost use Rattle.formatx.specs.Fault.{Answers, Tells, unreadable_at, quoting};
 ghost use Rattle.formatx.specs.Words.{ends_at, has, is_plain, is_type_start, is_word, is_word_start, run_end, text_between, usize_of};
 ghost use Rattle.formatx.specs.Options.{align_of, alternate_at, char_at, count_at, fill_align_at, hex_at, number_between, number_count_at, precision_at, sign_at, type_at, zero_at};
 ghost use Rattle.formatx.specs.Segments.{argument_at, close_at, closed_at, follows_argument, open_at, options_at, placeholder_at, segment_at, segments_of, spec_at};
+ghost use Rattle.formatx.specs.Grammar.{Refuses, Spells};
 ghost use Rattle.formatx.specs.Spans.{ArgumentFits, CountFits, Fits, IsPlaced, PrecisionFits, SpecFits, Tiles};
 
 use crate::ast::{
@@ -559,6 +560,10 @@ fn segment_at(alloc: Global, source: &str, at: usize) -> Result<(Segment, usize)
 /// Reads a template into its segments. Outside the grammar it answers `Error::Parse`, with the first place that can't be
 /// read and a message about it.
 pub fn parse(alloc: Global, source: &str) -> Result<FormatString, Error>
+    ensures spells { IfOk result (λ p. Spells source.now p.segments.items) }
+    ensures outside { IfErr result (Refuses source.now) }
+
+    // The same as a function, which also says which fault is the first.
     ensures ok { IfOk result (λ p. segments_of source.now ≡ Ok p.segments.items) }
     ensures err { IfErr result (λ e. Tells e (segments_of source.now)) }
 

@@ -22,7 +22,7 @@ pub struct Renderer<'a, V: FormatValue> {
 impl<'a, V: FormatValue> Model for Renderer<'a, V> {
     ghost use Rattle.std.specs.Prelude.{map};
     ghost use Rattle.formatx.specs.Templates.{Filling};
-    ghost use Rattle.formatx.specs.Text.{named_position};
+    ghost use Rattle.formatx.specs.Scene.{named_position};
 
     ghost Value = { Filling V };
 

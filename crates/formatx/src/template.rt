@@ -2,9 +2,11 @@
 ghost use Rattle.std.specs.Prelude.{◌≡◌, ◌∷◌, ◌↔◌, [], Contains, IfErr, IfOk, IsOk, IsTrue, MatchOption, OnOk, Ok, map, string_bytes};
 ghost use Rattle.formatx.specs.Fault.{Tells};
 ghost use Rattle.formatx.specs.Segments.{segments_of};
+ghost use Rattle.formatx.specs.Grammar.{IsTemplate, Refuses};
 ghost use Rattle.formatx.specs.Spans.{Fits, SegmentFits};
 ghost use Rattle.formatx.specs.Templates.{names_in, names_of, segment_names};
-ghost use Rattle.formatx.specs.Text.{formatted, scene_over};
+ghost use Rattle.formatx.specs.Scene.{scene_over};
+ghost use Rattle.formatx.specs.Text.{formatted};
 
 use crate::ast::{Argument, FormatString, Segment};
 use crate::error::Error;
@@ -107,6 +109,10 @@ impl Template {
     /// Reads a template, and keeps a copy of its source.
     pub fn new(alloc: Global, source: &str) -> Result<Template, Error>
         ensures ok { IfOk result (λ t. t ≡ source.now) }
+        ensures spells { OnOk result (IsTemplate source.now) }
+        ensures outside { IfErr result (Refuses source.now) }
+
+        // The same as a function, which also says which fault is the first.
         ensures parsed { OnOk result (IsOk (segments_of source.now)) }
         ensures err { IfErr result (λ e. Tells e (segments_of source.now)) }
     {

@@ -414,7 +414,8 @@ fn output_after_a_fault(rt: HostRuntime) -> Result<(), Fail> {
     assert!(rt; !parsed.fits("x"));
     let mut out = String::from_str(alloc, "pre ")?;
     let answer = render::<u8>(alloc, &mut out, source, &parsed, &[1, 2], &[], false);
-    assert!(rt; answer.is_err());
+    let refused: String = told(alloc, answer.map(|_done| String::new(alloc)))?;
+    assert_eq!(rt; refused.as_str(), "parse 5..6 missing count argument: `w`");
     assert_eq!(rt; out.as_str(), "pre x1");
     Ok(())
 }
@@ -438,5 +439,103 @@ fn wide_text(rt: HostRuntime) -> Result<(), Fail> {
     let wide = printed::<u8>(alloc, "{:65537}", &[1], true)?;
     assert_eq!(rt; wide.len(), 65537);
     assert!(rt; wide.as_str().ends_with("  1"));
+    Ok(())
+}
+
+// Templates, and what they print strictly over `w` (5), `p` (2) and `t` (abcdef), which stand at 0, 1 and 2.
+const NAMED: &str = "\
+    {t:w$.p$}|\tab   |\n\
+    {t:0$.1$}|\tab   |\n\
+    {2:>w$.p$}|\t   ab|\n\
+    {:.*}{}{:.*}\tparse 0..0 not enough arguments for `.*` precision\n\
+    {:.*}{:.*}\tparse 0..0 `.*` precision argument `abcdef` is not a valid usize\n\
+    {t:.q$}\tparse 4..5 missing count argument: `q`\n\
+    {t:q$}\tparse 3..4 missing count argument: `q`\n\
+    {t:0x$}\tparse 4..5 missing count argument: `x`\n\
+    {t:.9$}\tparse 0..0 count argument index 9 out of range\n\
+    {t:.t$}\tparse 0..0 count argument `abcdef` is not a valid usize\n\
+    {q:.q$}\tparse 4..5 missing count argument: `q`\n\
+    {q:q$}\tmissing 0..6 q\n\
+    {t:q$x}\tparse 3..4 missing count argument: `q`\n\
+    {t:w$X}\tunsupported 0..7 UpperHex\n";
+
+fn printed_named(alloc: Global, source: &str) -> Result<String, Error> {
+    let template = Template::new(alloc, source)?;
+    let mut renderer = template.render::<&str>(alloc);
+    let _ = renderer.named("w", "5")?.named("p", "2")?;
+    let _ = renderer.named("t", "abcdef")?;
+    renderer.finish()
+}
+
+#[test]
+fn counts_by_name(rt: HostRuntime) -> Result<(), Fail> {
+    let alloc = rt.alloc();
+    for row in NAMED.lines() {
+        let (source, want) = row.split_once('\t').ok_or("no template")?;
+        let text: String = told(alloc, printed_named(alloc, source))?;
+        assert_eq!(rt; text.as_str(), want);
+    }
+    Ok(())
+}
+
+// Templates, and what they print over the value 7, or how the refusal shows itself.
+const SHOWN: &str = "\
+    {:?}{:x?}\tmissing argument: `1`\n\
+    {:?}{0:x?}{0:X?}\t777\n\
+    a}\tparse error at byte 1: unmatched `}`\n\
+    é{0\tparse error at byte 3: invalid placeholder argument\n\
+    {name}\tmissing argument: `name`\n\
+    {:o}\tunsupported format trait: `Octal`\n\
+    {:x}\tunsupported format trait: `LowerHex`\n\
+    {:X}\tunsupported format trait: `UpperHex`\n\
+    {:b}\tunsupported format trait: `Binary`\n\
+    {:e}\tunsupported format trait: `LowerExp`\n\
+    {:E}\tunsupported format trait: `UpperExp`\n\
+    {:p}\tunsupported format trait: `Pointer`\n\
+    {:18446744073709551615}\tno memory\n";
+
+fn shown(alloc: Global, answer: Result<String, Error>) -> Result<String, AllocError> {
+    match answer {
+        Ok(text) => Ok(text),
+        Err(error) => format!(in alloc; "{error}"),
+    }
+}
+
+#[test]
+fn errors_shown(rt: HostRuntime) -> Result<(), Fail> {
+    let alloc = rt.alloc();
+    for row in SHOWN.lines() {
+        let (source, want) = row.split_once('\t').ok_or("no template")?;
+        let text: String = shown(alloc, one_printed(alloc, source, 7u8))?;
+        assert_eq!(rt; text.as_str(), want);
+    }
+    Ok(())
+}
+
+#[test]
+fn escapes_parsed(rt: HostRuntime) -> Result<(), Fail> {
+    let alloc = rt.alloc();
+    let parsed = parse(alloc, "{{}}")?;
+    assert_eq!(rt; parsed.segments.len(), 2);
+    assert!(rt; matches!(&parsed.segments[0], Segment::EscapedOpen));
+    assert!(rt; matches!(&parsed.segments[1], Segment::EscapedClose));
+    Ok(())
+}
+
+// Where the memory for a value is refused, the values before it are all there is.
+#[test]
+fn values_after_a_refusal(rt: HostRuntime) -> Result<(), Fail> {
+    let alloc = rt.alloc();
+    let template = Template::new(alloc, "{}|{x}|{}")?;
+    let mut renderer = template.render::<u8>(alloc);
+    let first = renderer.arg(1).is_ok();
+    let second = renderer.named("x", 2).is_ok();
+    let want = match (first, second) {
+        (true, true) => "1|2|2",
+        (true, false) => "1||",
+        (false, true) => "2|2|",
+        (false, false) => "||",
+    };
+    assert_eq!(rt; renderer.finish_lenient()?.as_str(), want);
     Ok(())
 }

@@ -48,14 +48,18 @@ fault_counts failed not_utf8 too_long CannotOpen = 0
 abbrev pub reader_faults : {B : Type 0} → (B → ℕ) → Reader B → IoFault → ℕ
 reader_faults faults r = fault_counts (faults r.source) r.not_utf8 r.too_long
 
--- Two states of a reader show the same.
-pub record ShowsSame {B : Type 0} (old new : Reader B) : Type 0 where
+-- A reader stays in its line: all that two states show is the same, but for the bytes of the line that were passed.
+pub record StaysInLine {B : Type 0} (old new : Reader B) : Type 0 where
   pub source : reader_source new ≡ reader_source old
   pub limit : reader_limit new ≡ reader_limit old
   pub taken : reader_taken new ≡ reader_taken old
   pub past : reader_past new ≡ reader_past old
   pub waiting : reader_waiting new ≡ reader_waiting old
   pub line : reader_line new ≡ reader_line old
-  pub passed : reader_passed new ≡ reader_passed old
   pub row : reader_row new ≡ reader_row old
   pub faults : (faults : B → ℕ) → reader_faults faults new ≡ reader_faults faults old
+
+-- Two states of a reader show the same.
+pub record ShowsSame {B : Type 0} (old new : Reader B) : Type 0 where
+  pub stays : StaysInLine old new
+  pub passed : reader_passed new ≡ reader_passed old

@@ -1,10 +1,20 @@
 // Lines of a source, read in pieces, and the values that are read from them.
-ghost use Rattle.std.specs.Prelude.{◌≡◌, ◌≤◌, ◌↔◌, [], true, false, IsTrue, string_bytes, IsCharBoundary};
+ghost use Rattle.std.specs.Prelude.{◌≡◌, ◌≤◌, ◌↔◌, [], true, false, IsTrue, IfErr, length, string_bytes, IsCharBoundary};
 ghost use Rattle.whiteread.specs.Lines.{HasNoFeed};
 ghost use Rattle.whiteread.specs.Pending.{pending_bytes};
 
+pub(crate) mod ends;
 mod error;
+#[cfg(test)]
+mod error_tests;
+#[cfg(test)]
+mod line_tests;
+pub(crate) mod one_line;
 mod pending;
+#[cfg(test)]
+mod value_tests;
+mod values;
+mod words;
 
 use crate::stream;
 use edge_io::Source;
@@ -37,7 +47,8 @@ pub struct Reader<B> {
 impl<B: Source> Reader<B> {
     ghost use Rattle.whiteread.specs.ReaderState.{reader_source, reader_limit, reader_taken, reader_past, reader_waiting, reader_line, reader_passed, reader_row, ShowsSame};
     ghost use Rattle.whiteread.specs.LineCall.{LineCall};
-    ghost use Rattle.whiteread.specs.Told.{inner_answer};
+    ghost use Rattle.whiteread.specs.LineSteps.{AwaitCall, PieceCall, TakeCall};
+    ghost use Rattle.whiteread.specs.Located.{inner_answer, unplaced};
 
     /// A reader over the source, with no line yet, that takes at most `limit` bytes. It takes no memory.
     pub fn new(alloc: Global, buf: B, limit: u64) -> Reader<B>
@@ -69,6 +80,7 @@ impl<B: Source> Reader<B> {
     /// It refuses by `IoError` and `NoMemory` alone.
     pub fn advance_line(&mut self) -> Result<bool>
         ensures line { LineCall B.rest B.given B.faults B.reference self.old (inner_answer result) self.new }
+        ensures no_place { IfErr result (λ error. error ≡ unplaced error.error) }
     {
         match self.read_line() {
             Ok(found) => Ok(found),
@@ -85,7 +97,7 @@ impl<B: Source> Reader<B> {
 
     /// Whether a whole line is waiting, so that the next reading of a line makes no read.
     pub fn line_waits(&mut self) -> bool
-        ensures waits { IsTrue result → (¬ HasNoFeed (reader_waiting self.old)) }
+        ensures waits { IsTrue result ↔ (¬ HasNoFeed (reader_waiting self.old)) }
         ensures unchanged { ShowsSame self.old self.new }
     {
         false
@@ -105,6 +117,87 @@ impl<B: Source> Reader<B> {
     {
         self.line.clear();
         self.passed = 0;
-        Err(stream::Error::NoMemory)
+        let Some(len) = self.await_line()? else {
+            self.row = self.row.saturating_add(1);
+            return Ok(false);
+        };
+        self.take_line(len)?;
+        Ok(true)
+    }
+
+    /// Reads until a whole line waits, and answers its length; None where the input has ended.
+    fn await_line(&mut self) -> stream::Result<Option<usize>>
+        ensures { AwaitCall B.rest B.given B.faults B.reference self.old result self.new }
+    {
+        'reads: loop {
+            if let Some(len) = self.waiting.line_len() {
+                return Ok(Some(len));
+            }
+            if !self.read_piece()? {
+                let len = self.waiting.len();
+                if len == 0 {
+                    return Ok(None);
+                }
+                return Ok(Some(len));
+            }
+        }
+    }
+
+    /// Makes one read, and answers whether it gave bytes. At the limit it asks for one byte, which is past it.
+    fn read_piece(&mut self) -> stream::Result<bool>
+        requires { HasNoFeed (reader_waiting self.old) }
+        ensures { PieceCall B.rest B.given B.faults B.reference self.old result self.new }
+    {
+        if self.past {
+            self.too_long = self.too_long.saturating_add(1);
+            return Err(stream::Error::IoError(IoFault::TooLong));
+        }
+        if self.taken == self.limit {
+            return self.probe();
+        }
+        let ask = (self.limit - self.taken).min(PIECE);
+        let count = self.waiting.read_from(&mut self.source, ask as usize)?;
+        self.taken += count as u64;
+        Ok(count > 0)
+    }
+
+    /// Asks the source for one byte past the limit. It answers false where there is none, and refuses where there is.
+    fn probe(&mut self) -> stream::Result<bool>
+        requires no_line { HasNoFeed (reader_waiting self.old) }
+        requires full { reader_taken self.old ≡ reader_limit self.old }
+        requires within { reader_past self.old ≡ false }
+        ensures { PieceCall B.rest B.given B.faults B.reference self.old result self.new }
+    {
+        let mut byte = [0];
+        match self.source.read(&mut byte) {
+            Ok(0) => Ok(false),
+            Ok(_) => {
+                self.past = true;
+                self.too_long = self.too_long.saturating_add(1);
+                Err(stream::Error::IoError(IoFault::TooLong))
+            }
+            Err(_) => Err(stream::Error::IoError(IoFault::ReadFault)),
+        }
+    }
+
+    /// Makes the first bytes that wait the current line.
+    fn take_line(&mut self, len: usize) -> stream::Result<()>
+        requires waits { len ≤ length (reader_waiting self.old) }
+        requires no_line { reader_line self.old ≡ [] }
+        requires none_passed { reader_passed self.old ≡ 0 }
+        ensures { TakeCall B.faults len self.old result self.new }
+    {
+        let Ok(text) = std::str::from_utf8(self.waiting.front(len)) else {
+            self.waiting.drop_front(len);
+            self.row = self.row.saturating_add(1);
+            self.not_utf8 = self.not_utf8.saturating_add(1);
+            return Err(stream::Error::IoError(IoFault::NotUtf8));
+        };
+        if self.line.push_str(text).is_err() {
+            return Err(stream::Error::NoMemory);
+        }
+        self.waiting.drop_front(len);
+        self.row = self.row.saturating_add(1);
+        Ok(())
     }
 }

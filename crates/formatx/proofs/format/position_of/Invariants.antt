@@ -1,6 +1,6 @@
 -- No earlier name is equal.
 use Rattle.std.proofs.Common.{◌≡◌, map, drop}
-use Rattle.formatx.specs.Text.{named_position, position_of}
+use Rattle.formatx.specs.Scene.{named_position, position_of}
 use Rattle.formatx.proofs.format.position_of.Given as goal
 
 abbrev pub invariant-names : goal.invariant-names

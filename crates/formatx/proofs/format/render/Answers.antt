@@ -2,7 +2,8 @@
 use Rattle.std.proofs.Common.{◌<◌, List, length, get_or, subst, arith, rules}
 use Rattle.std.specs.Prelude.{string_bytes}
 use Rattle.formatx.specs.Fault.{Tells}
-use Rattle.formatx.specs.Text.{Holds, rendered, scene_over, segment_text}
+use Rattle.formatx.specs.Scene.{scene_over}
+use Rattle.formatx.specs.Text.{Holds, rendered, segment_text}
 use Rattle.formatx.specs.declared.ast.Segment.{Segment}
 use Rattle.formatx.specs.declared.ast.Segment.TheVariants.{Literal}
 use Rattle.formatx.proofs.PrintLemmas.{print_fault_at}

@@ -1,7 +1,8 @@
 -- The output holds the text of the segments so far.
 use Rattle.std.proofs.Common.{◌≤◌, ◌*◌, drop}
 use Rattle.std.specs.Prelude.{string_bytes}
-use Rattle.formatx.specs.Text.{rendered, scene_over}
+use Rattle.formatx.specs.Scene.{scene_over}
+use Rattle.formatx.specs.Text.{rendered}
 use Rattle.formatx.proofs.PrintLemmas.{IsPrinted}
 use Rattle.formatx.proofs.format.render.Given as goal
 

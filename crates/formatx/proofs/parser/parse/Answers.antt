@@ -2,6 +2,8 @@
 use Rattle.std.proofs.Common.{◌≡◌, ◌<◌, ◌≤◌, ◌∷◌, [], ◌++◌, length, arith, rules}
 use Rattle.std.proofs.lemmas.Bool.Decides.{nat_tests}
 use Rattle.formatx.proofs.ReadLemmas.{read_nothing, read_segment, read_fault, read_all, tiled}
+use Rattle.formatx.proofs.GrammarFaults.{refused}
+use Rattle.formatx.proofs.GrammarSound.{sound}
 use Rattle.formatx.proofs.parser.parse.Goals as goal
 
 pub segments-init : goal.segments-init
@@ -22,10 +24,20 @@ returns-in_err-segment-clause-err c =
     let told = read_fault c.args.source.now c.segments.at c.segments.segments.items _ c.segments.invariant inside c.in_err-segment.ensures.value in
     search (rules, told)
 
+pub returns-in_err-segment-clause-outside : goal.returns-in_err-segment-clause-outside
+returns-in_err-segment-clause-outside c =
+    let inside : c.segments.at < length c.args.source.now = omega arith in
+    let told = read_fault c.args.source.now c.segments.at c.segments.segments.items _ c.segments.invariant inside c.in_err-segment.ensures.value in
+    let fault = refused c.args.source.now _ c.utf8.source told in
+    search (rules, fault)
+
 pub returns-clause-ok : goal.returns-clause-ok
 returns-clause-ok c =
     let end : length c.args.source.now ≤ c.segments.at = omega arith in
     read_all c.args.source.now c.segments.at c.segments.segments.items c.segments.invariant end
+
+pub returns-clause-spells : goal.returns-clause-spells
+returns-clause-spells c = sound c.args.source.now c.segments.segments.items c.utf8.source (returns-clause-ok c)
 
 pub returns-clause-tiles : goal.returns-clause-tiles
 returns-clause-tiles c =
