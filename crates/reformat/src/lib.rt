@@ -11,6 +11,8 @@ mod kind;
 mod message;
 mod reading;
 mod row;
+#[cfg(test)]
+mod tests;
 mod words;
 
 pub use command::run;

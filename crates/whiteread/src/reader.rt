@@ -17,11 +17,14 @@ mod values;
 mod words;
 
 use crate::stream;
+use crate::stream::IoFault;
 use edge_io::Source;
 pub use error::{Error, Result};
 use pending::Pending;
 use std::alloc::Global;
 
+/// How many bytes a read asks for at most.
+const PIECE: u64 = 4096;
 
 /// Hands out the lines of a source one by one, and reads words and values from them. It takes at most so many bytes
 /// as its limit says, reads only where no whole line is waiting, and holds no more than a line and a read.
@@ -100,7 +103,7 @@ impl<B: Source> Reader<B> {
         ensures waits { IsTrue result ↔ (¬ HasNoFeed (reader_waiting self.old)) }
         ensures unchanged { ShowsSame self.old self.new }
     {
-        false
+        self.waiting.line_len().is_some()
     }
 
     /// The source. Bytes that were taken already are dropped.
@@ -111,7 +114,7 @@ impl<B: Source> Reader<B> {
         source
     }
 
-    /// Stub.
+    /// Reads a new line: true where there is one, false at the end of the input.
     pub(crate) fn read_line(&mut self) -> stream::Result<bool>
         ensures { LineCall B.rest B.given B.faults B.reference self.old result self.new }
     {
