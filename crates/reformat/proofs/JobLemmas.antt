@@ -113,9 +113,11 @@ whole_front held held' a b all =
 
 pub front_after : (held mid held' : Option (List ℕ)) (a b : List ℕ) → Appends held mid a → AppendsFront mid held' b → AppendsFront held held' (a ++ b)
 front_after held mid held' a b sent front =
-    let n : ℕ = front.0 in
-    (length a + n, omega (arith, front.1, length-append a b),
-    subst (λ (t : List ℕ). Appends held held' t) (sym (take-append-add a b n)) (Appends-trans held mid held' a (take n b) sent front.2))
+    let n : ℕ = front.0 in (
+      length a + n,
+      omega (arith, front.1, length-append a b),
+      subst (λ (t : List ℕ). Appends held held' t) (sym (take-append-add a b n)) (Appends-trans held mid held' a (take n b) sent front.2),
+    )
 
 -- stages
 
@@ -187,10 +189,12 @@ job_line ends s t owed grown onto before old new source' output output' result l
           (λ bytes. (text : List ℕ) × RefusesFrom t (IsEndReached l1 bytes) (reached_lines l1 bytes) text why × Appends (ends.held output) (ends.held output') (grown ++ text))
           (λ bytes. (text : List ℕ) × RefusesFrom s (IsEndReached l0 bytes) (reached_lines l0 bytes) text why × Appends (ends.held output) (ends.held output') (owed ++ text))
           takes.gave.bytes takes.cut takes.first takes.unended
-          (λ bytes first here. (onto here.0,
-              subst (λ (ls : List (List ℕ)). RefusesFrom s (IsEndReached l0 (line ++ bytes)) ls (onto here.0) why) (sym (reached_first line bytes l0 l1 first reach))
-              (refused (IsEndReached l1 bytes) (IsEndReached l0 (line ++ bytes)) (λ le. omega (arith, le, reach, length-append line bytes)) (reached_lines l1 bytes) here.0 why here.1),
-              subst (λ (o : List ℕ). Appends (ends.held output) (ends.held output') o) (same here.0) here.2)) (before_ of_lines)) job.refused;
+          (λ bytes first here. (
+            onto here.0,
+            subst (λ (ls : List (List ℕ)). RefusesFrom s (IsEndReached l0 (line ++ bytes)) ls (onto here.0) why) (sym (reached_first line bytes l0 l1 first reach))
+                (refused (IsEndReached l1 bytes) (IsEndReached l0 (line ++ bytes)) (λ le. omega (arith, le, reach, length-append line bytes)) (reached_lines l1 bytes) here.0 why here.1),
+            subst (λ (o : List ℕ). Appends (ends.held output) (ends.held output') o) (same here.0) here.2,
+          )) (before_ of_lines)) job.refused;
       too_long = λ e. (let h : ends.given source' ≡ ends.given (reader_source new) + (reader_limit new - reader_taken new) + 1 = job.too_long e in omega (arith, h, n.gave, n.room));
       within = elim job.within [
         | inl e ↦ inl e
@@ -200,16 +204,18 @@ job_line ends s t owed grown onto before old new source' output output' result l
           (λ bytes. (l1 < length bytes) × Grew t grown (ends.held output) (ends.held output') (ended_lines l1 bytes))
           (λ bytes. (l0 < length bytes) × Grew s owed (ends.held output) (ends.held output') (ended_lines l0 bytes))
           takes.gave.bytes takes.cut takes.first takes.unended
-          (λ bytes first here. (omega (arith, here.0, reach, length-append line bytes),
-              grew s t owed grown onto (ends.held output) (ends.held output') (without_feed line) (ended_lines l1 bytes) (ended_lines l0 (line ++ bytes)) same kept
-              (ended_first line bytes l0 l1 (whole_if_closed line bytes first (subst (λ (l : List ℕ). ¬ IsOpen l) current (job.more (inr e)))) reach) here.1)) (job.past_limit e);
+          (λ bytes first here. (
+            omega (arith, here.0, reach, length-append line bytes),
+            grew s t owed grown onto (ends.held output) (ends.held output') (without_feed line) (ended_lines l1 bytes) (ended_lines l0 (line ++ bytes)) same kept
+                (ended_first line bytes l0 l1 (whole_if_closed line bytes first (subst (λ (l : List ℕ). ¬ IsOpen l) current (job.more (inr e)))) reach) here.1,
+          )) (job.past_limit e);
       read_fault = λ e. (let h : Rises (ends.faults (reader_source new)) (ends.faults source') = job.read_fault e in subst (λ (f : ℕ). Rises f (ends.faults source')) took.still h);
       after_read_fault = λ e. moves (ends.rest (reader_source old)) (ends.rest (reader_source new)) w0 w1 line takes.got
           (λ bytes. Grew t grown (ends.held output) (ends.held output') (ended_lines seen1 bytes))
           (λ bytes. Grew s owed (ends.held output) (ends.held output') (ended_lines seen0 bytes))
           takes.gave.bytes takes.cut takes.first takes.unended
           (λ bytes first here. grew s t owed grown onto (ends.held output) (ends.held output') (without_feed line) (ended_lines seen1 bytes) (ended_lines seen0 (line ++ bytes)) same kept
-              (ended_first line bytes seen0 seen1 (whole_if_closed line bytes first (subst (λ (l : List ℕ). ¬ IsOpen l) current (job.more (inl e)))) see) here) (job.after_read_fault e);
+          (ended_first line bytes seen0 seen1 (whole_if_closed line bytes first (subst (λ (l : List ℕ). ¬ IsOpen l) current (job.more (inl e)))) see) here) (job.after_read_fault e);
       reads = elim job.reads [
         | inl e ↦ inl e
         | inr h ↦ inr (h ∙ took.still)
@@ -221,7 +227,7 @@ job_line ends s t owed grown onto before old new source' output output' result l
           (λ bytes. GrewSome s owed (ends.held output) (ends.held output') (reached_lines l0 bytes))
           takes.gave.bytes takes.cut takes.first takes.unended
           (λ bytes first here. grew_some s t owed grown onto (ends.held output) (ends.held output') (without_feed line) (reached_lines l1 bytes) (reached_lines l0 (line ++ bytes)) same kept
-              (reached_first line bytes l0 l1 first reach) here) (job.stopped e);
+          (reached_first line bytes l0 l1 first reach) here) (job.stopped e);
       grows = omega (arith, job.grows, n.gave);
       more = λ e. took.more;
     }
@@ -320,9 +326,12 @@ job_refused ends s owed before old new output output' why line took within of_li
       refused = λ _. line_is (ends.rest (reader_source old)) (ends.rest (reader_source new)) (reader_waiting old) (reader_waiting new) line takes.got
           (λ bytes. (text : List ℕ) × RefusesFrom s (IsEndReached l0 bytes) (reached_lines l0 bytes) text why × Appends (ends.held output) (ends.held output') (owed ++ text))
           takes.gave.bytes takes.cut takes.first takes.unended
-          (λ bytes first. ([], subst (λ (ls : List (List ℕ)). RefusesFrom s (IsEndReached l0 (line ++ bytes)) ls [] why) (sym (reached_first line bytes l0 l1 first reach))
-              (bad (IsEndReached l0 (line ++ bytes)) (reached_lines l1 bytes)),
-              subst (λ (o : List ℕ). Appends (ends.held output) (ends.held output') o) (sym (append-nil owed)) sent));
+          (λ bytes first. (
+            [],
+            subst (λ (ls : List (List ℕ)). RefusesFrom s (IsEndReached l0 (line ++ bytes)) ls [] why) (sym (reached_first line bytes l0 l1 first reach))
+                (bad (IsEndReached l0 (line ++ bytes)) (reached_lines l1 bytes)),
+            subst (λ (o : List ℕ). Appends (ends.held output) (ends.held output') o) (sym (append-nil owed)) sent,
+          ));
       too_long = λ e. absurd (no_refusal why TooLong of_lines (λ h. h) e);
       within = inr (omega (arith, n.gave, n.room));
       past_limit = λ e. absurd (no_refusal why TooLong of_lines (λ h. h) e);
@@ -384,8 +393,10 @@ job_passed ends s old new output passed =
       within = inl refl;
       past_limit = λ e. passes_is (ends.rest (reader_source old)) (ends.rest (reader_source new)) w0 w1 p.got p.probe
           (λ bytes. (l0 < length bytes) × Grew s [] (ends.held output) (ends.held output) (ended_lines l0 bytes)) p.gave.bytes p.waits
-          (λ bytes. (omega (arith, reach, one, length-append w1 (p.probe ++ bytes), length-append p.probe bytes),
-              ([], subst (λ (ls : List (List ℕ)). AreKeptFrom s ls []) (sym (ended_none w1 (p.probe ++ bytes) l0 p.no_line reach)) (none_kept s), Appends-nil (ends.held output))));
+          (λ bytes. (
+            omega (arith, reach, one, length-append w1 (p.probe ++ bytes), length-append p.probe bytes),
+            ([], subst (λ (ls : List (List ℕ)). AreKeptFrom s ls []) (sym (ended_none w1 (p.probe ++ bytes) l0 p.no_line reach)) (none_kept s), Appends-nil (ends.held output)),
+          ));
       read_fault = λ e. absurd (cc);
       after_read_fault = λ e. absurd (cc);
       reads = inr passed.still;

@@ -39,13 +39,14 @@ pub next_ok : {B : Type 0} (rest : B → Option (List ℕ)) (given faults refere
     → ¬ IsOpen (reader_line old) → IsReady rest given before old → LineCall rest given faults reference old (Ok found) new → NextLine rest given faults before old (Ok found) new
 next_ok rest given faults reference before old new true more ready call =
     let takes : TakesLine rest given old new (reader_line new) = call.outcome.0 in
-    let still : faults (reader_source new) ≡ faults (reader_source old) = ap (λ (f : IoFault → ℕ). f FaultRead) call.counts in
-    (took rest given faults reference before old new (reader_line new) more ready takes still call.limit,
-    record {
-      past = takes.past;
-      last = λ opened. (let end = last_if_open (reader_line new) (reader_waiting new) takes.first opened in (end.1, takes.unended end.0));
-      counted = one_more rest given before old new (reader_line new) ready takes;
-    })
+    let still : faults (reader_source new) ≡ faults (reader_source old) = ap (λ (f : IoFault → ℕ). f FaultRead) call.counts in (
+      took rest given faults reference before old new (reader_line new) more ready takes still call.limit,
+      record {
+        past = takes.past;
+        last = λ opened. (let end = last_if_open (reader_line new) (reader_waiting new) takes.first opened in (end.1, takes.unended end.0));
+        counted = one_more rest given before old new (reader_line new) ready takes;
+      },
+    )
 next_ok rest given faults reference before old new false more ready call = record {
   gave = call.outcome.0.gave;
   none = call.outcome.0.none_waited;
@@ -76,9 +77,12 @@ next_err rest given faults reference before number old new (IoError FaultUtf8) w
     let takes : TakesLine rest given old new line = call.outcome.0.1 in
     let enough : (before + 1) + length (reader_waiting new) ≤ given (reader_source new) = one_more rest given before old new line ready takes in
     let still : faults (reader_source new) ≡ faults (reader_source old) = others_still faults old new FaultUtf8 (λ e. absurd (cc)) call.counts in
-    subst (λ (e : ReformatError). NextLine rest given faults before old (Err e) new) (sym told)
-    (line, took rest given faults reference before old new line more ready takes still call.limit, call.outcome.0.2,
-    omega (arith, counted, enough, fits (reader_source new)))
+    subst (λ (e : ReformatError). NextLine rest given faults before old (Err e) new) (sym told) (
+      line,
+      took rest given faults reference before old new line more ready takes still call.limit,
+      call.outcome.0.2,
+      omega (arith, counted, enough, fits (reader_source new)),
+    )
 next_err rest given faults reference before number old new (IoError FaultLong) why more ready fits counted call told =
     subst (λ (e : ReformatError). NextLine rest given faults before old (Err e) new) (sym told) (record {
       passes = call.outcome.0;

@@ -360,6 +360,7 @@ kept_is_rewritten input text kept long =
 
 pub rewritten_is_kept : (input text : List ℕ) → IsRewritten input text → AreKept (lines_of input) text × (4 ≤ length (lines_of input))
 rewritten_is_kept input text written =
-    let h : HasHeaders (lines_of input) written.source written.template written.rows = written.headers in
-    (subst (λ (lines : List (List ℕ)). AreKept lines text) (sym h.lines_are) (h.kinds, h.kinds_line, (written.source, h.source_line, (h.dialect_line, (written.template, h.template_line, written.text_of)))),
-    omega (arith, ap length h.lines_are))
+    let h : HasHeaders (lines_of input) written.source written.template written.rows = written.headers in (
+      subst (λ (lines : List (List ℕ)). AreKept lines text) (sym h.lines_are) (h.kinds, h.kinds_line, (written.source, h.source_line, (h.dialect_line, (written.template, h.template_line, written.text_of)))),
+      omega (arith, ap length h.lines_are),
+    )

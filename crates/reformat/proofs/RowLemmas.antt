@@ -36,11 +36,11 @@ quiet_starved rest given faults old new starved within = record {
 
 pub quiet_same : {B : Type 0} (given faults : B → ℕ) (old new : Reader B) → ShowsSame old new → Quiet given faults old new
 quiet_same given faults old new same =
-    let is : given (reader_source new) ≡ given (reader_source old) = ap given same.source in
+    let is : given (reader_source new) ≡ given (reader_source old) = ap given same.stays.source in
     record {
       grows = omega (arith, is);
       within = omega (arith, is);
-      still = ap faults same.source;
+      still = ap faults same.stays.source;
     }
 
 -- the reading of a row from that of its line
@@ -107,7 +107,7 @@ view_is s s' w w' r r' l l' p q x y = λ i. view (p i) (q i) (x i) (y i)
 
 same_view : {B : Type 0} (old new : Reader B) → ShowsSame old new → view_of new ≡ view_of old
 same_view old new same = view_is (reader_source old) (reader_source new) (reader_waiting old) (reader_waiting new) (reader_limit old - reader_taken old) (reader_limit new - reader_taken new) (reader_line old) (reader_line new)
-    same.source same.waiting (ap (λ (n : ℕ). n - reader_taken new) same.limit ∙ ap (λ (n : ℕ). reader_limit old - n) same.taken) same.line
+    same.stays.source same.stays.waiting (ap (λ (n : ℕ). n - reader_taken new) same.stays.limit ∙ ap (λ (n : ℕ). reader_limit old - n) same.stays.taken) same.stays.line
 
 pub job_due : {B K : Type 0} (ends : Ends B K) (source template : List FormatElement) (number : ℕ) (old new : Reader B) (batch batch' : List ℕ) (source' : B) (output mid output' : K) (result : Result ℕ ReformatError)
     → ShowsSame old new → SentOr ends.held ends.sink_faults new output mid batch batch'
@@ -232,4 +232,4 @@ pub left_falls : {B : Type 0} (rest : B → Option (List ℕ)) (given faults : B
 left_falls rest given faults before first old new line same took within =
     let cut : length (reader_waiting old) + length took.takes.got ≡ length line + length (reader_waiting new) =
     sym (length-append (reader_waiting old) took.takes.got) ∙ ap length took.takes.cut ∙ length-append line (reader_waiting new) in
-    omega (arith, cut, took.takes.taken, took.limit, within, same.taken, same.limit, ap length same.waiting, first_some line (reader_waiting new) took.takes.first)
+    omega (arith, cut, took.takes.taken, took.limit, within, same.stays.taken, same.stays.limit, ap length same.stays.waiting, first_some line (reader_waiting new) took.takes.first)

@@ -1,4 +1,4 @@
--- What the job does from one of its lines on: the stages of the job, and the clauses that each keeps.
+-- What the job does from one of its lines on: the stages of the job, and the clauses that each keeps. Only private calls cite it.
 use Rattle.std.specs.Prelude.{◌≡◌, ◌≢◌, ◌<◌, ◌≤◌, ◌⊎◌, ◌+◌, ◌-◌, ℕ, List, [], ◌∷◌, ◌++◌, length, Bool, true, false, Option, Result, Ok, Err, IfSome, IfOk, IfErr, OnOk, IsErrOf}
 use Rattle.std.specs.Io.KnownBytes.{Appends, IsAtEnd}
 use Rattle.edge_io.specs.Ends.{Rises, AppendsFront}
@@ -106,7 +106,7 @@ pub record Job {B K : Type 0} (ends : Ends B K) (stage : Stage) (owed : List ℕ
 
 -- the text of the row that was taken stands after the batch
 abbrev pub Keeps : List FormatElement → List FormatElement → List ℕ → List ℕ → List ℕ → Type 0
-Keeps source template line batch batch' = AppendsRow source template (without_feed line) batch batch' 
+Keeps source template line batch batch' = AppendsRow source template (without_feed line) batch batch'
 
 -- between these states the source gave within the limit, and failed no read
 pub record Quiet {B : Type 0} (given faults : B → ℕ) (old new : Reader B) : Type 0 where

@@ -1,4 +1,4 @@
--- What the reading of a line leaves, as the job sees it.
+-- What the reading of a line leaves, as the job sees it. Only private calls cite it.
 use Rattle.std.specs.Prelude.{◌≡◌, ◌<◌, ◌≤◌, ◌+◌, ℕ, List, [], length, Bool, true, false, Option, Result, Ok, Err, IsUtf8}
 use Rattle.std.specs.Io.KnownBytes.{IsAtEnd}
 use Rattle.edge_io.specs.Ends.{Rises}

@@ -49,11 +49,19 @@ fn outlives_each_read(rt: HostRuntime) -> Result<(), Fail> {
     let bytes = joined(alloc, HEADERS, ROWS)?;
     for piece in 1..6 {
         for call in 1..25 {
-            let mut input = MemSource::new(bytes.as_slice().to_vec(alloc)?, piece, vec![in alloc; call]?);
+            let mut input = MemSource::new(
+                bytes.as_slice().to_vec(alloc)?,
+                piece,
+                vec![in alloc; call]?,
+            );
             let mut output = sink(alloc, piece)?;
             let got = reformat(alloc, &mut input, &mut output, 100);
             let failed = input.faults() == 1;
-            let want = if failed { Err(ReformatError::ReadFault) } else { Ok(2) };
+            let want = if failed {
+                Err(ReformatError::ReadFault)
+            } else {
+                Ok(2)
+            };
             assert_eq!(rt; got, want, "read {call} in pieces of {piece}");
             let rows = if input.given() >= 21 {
                 ROWS
@@ -79,7 +87,11 @@ fn outlives_each_write(rt: HostRuntime) -> Result<(), Fail> {
             let mut output = MemSink::new(vec![in alloc; 0; 10]?, piece, vec![in alloc; call]?);
             let got = reformat(alloc, &mut input, &mut output, 100);
             let failed = output.faults() == 1;
-            let want = if failed { Err(ReformatError::WriteFault) } else { Ok(2) };
+            let want = if failed {
+                Err(ReformatError::WriteFault)
+            } else {
+                Ok(2)
+            };
             assert_eq!(rt; got, want, "write {call} in pieces of {piece}");
             assert!(rt; ROWS.starts_with(output.bytes()));
             assert!(rt; failed || output.bytes() == ROWS);

@@ -1,6 +1,6 @@
 // What is written and told for an input, with its words, status, output and message; `^` stands for a line feed.
-use crate::tests::support::{run_table, sink, source};
 use crate::run;
+use crate::tests::support::{run_table, sink, source};
 use edge_io::MemSink;
 use std::test::Fail;
 

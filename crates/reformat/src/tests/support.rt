@@ -24,11 +24,7 @@ pub(super) fn bytes_of(alloc: Global, text: &str) -> Result<Vec<u8>, AllocError>
     Ok(bytes)
 }
 
-pub(super) fn source(
-    alloc: Global,
-    bytes: &[u8],
-    piece: usize,
-) -> Result<MemSource, AllocError> {
+pub(super) fn source(alloc: Global, bytes: &[u8], piece: usize) -> Result<MemSource, AllocError> {
     Ok(MemSource::new(bytes.to_vec(alloc)?, piece, Vec::new(alloc)))
 }
 

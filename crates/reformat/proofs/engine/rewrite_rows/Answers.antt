@@ -36,7 +36,7 @@ rows-preserved g c =
           c.next_row.new.reader.within step job));
       ready = step.1;
       some = omega (arith, c.rows.invariant.some);
-      same_reference = c.in-Ok-true.ensures.same_reference ∙ ap g.B.Source.reference c.in_ok-send_if_due.ensures.0.source ∙ c.rows.invariant.same_reference;
+      same_reference = c.in-Ok-true.ensures.same_reference ∙ ap g.B.Source.reference c.in_ok-send_if_due.ensures.0.stays.source ∙ c.rows.invariant.same_reference;
     }
 
 pub returns-in-Ok-false-clause-job : goal.returns-in-Ok-false-clause-job
@@ -64,7 +64,7 @@ returns-in_err-send-in-Err g c =
           c.in_ok-send_if_due.ensures.0 c.in_ok-send_if_due.ensures.1
           (job_row_unsent ends c.args.source.now c.args.template.now c.rows.lines c.send_if_due.new.reader c.next_row.new.reader c.rows.batch.items c.send_if_due.new.batch.items c.next_row.new.batch.items c.rows.output c.send_if_due.new.output c.send.new.output c.in-Err.why
           c.next_row.new.reader.within c.in_ok-send_if_due.ensures.1 c.in-Err.ensures.step other c.in_err-send-in-Err.ensures.some c.in_err-send-in-Err.ensures.fault c.in_err-send-in-Err.ensures.front)));
-      same_reference = c.in-Err.ensures.same_reference ∙ ap g.B.Source.reference c.in_ok-send_if_due.ensures.0.source ∙ c.rows.invariant.same_reference;
+      same_reference = c.in-Err.ensures.same_reference ∙ ap g.B.Source.reference c.in_ok-send_if_due.ensures.0.stays.source ∙ c.rows.invariant.same_reference;
     }
 
 pub returns-in-Err : goal.returns-in-Err
@@ -77,7 +77,7 @@ returns-in-Err g c =
           c.in_ok-send_if_due.ensures.0 c.in_ok-send_if_due.ensures.1
           (job_row_refused ends c.args.source.now c.args.template.now c.rows.lines c.send_if_due.new.reader c.next_row.new.reader c.rows.batch.items c.send_if_due.new.batch.items c.next_row.new.batch.items c.rows.output c.send_if_due.new.output c.send.new.output c.in-Err.why
           c.next_row.new.reader.within c.in_ok-send_if_due.ensures.1 c.in-Err.ensures.step other c.in_ok-send-in-Err.ensures.ok c.in_ok-send-in-Err.ensures.no_fault));
-      same_reference = c.in-Err.ensures.same_reference ∙ ap g.B.Source.reference c.in_ok-send_if_due.ensures.0.source ∙ c.rows.invariant.same_reference;
+      same_reference = c.in-Err.ensures.same_reference ∙ ap g.B.Source.reference c.in_ok-send_if_due.ensures.0.stays.source ∙ c.rows.invariant.same_reference;
     }
 
 pub returns-then-eq-clause-job : goal.returns-then-eq-clause-job

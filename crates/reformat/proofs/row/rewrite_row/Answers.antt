@@ -11,14 +11,17 @@ pub returns-in_ok-push-in-Ok-clause-ok : goal.returns-in_ok-push-in-Ok-clause-ok
 returns-in_ok-push-in-Ok-clause-ok c =
     let numbers : List ℕ = c.read_row.new.numbers.items in
     let read : IsRow c.args.source.now c.as_bytes.result.now numbers = c.in_ok-read_row.ensures.row c.if-not-branch.false in
-    let row : IsRow c.args.source.now c.args.row.now numbers = rw c.as_bytes.ensures.value at read in
-    (string_bytes c.in-Ok.line, record {
-      utf8 = c.utf8.row;
-      numbers = numbers;
-      is_row = row;
-      only = λ others other. one_list_of c.args.source.now c.args.row.now others numbers c.requires other row;
-      written = rw c.deref.ensures.value at c.in-Ok.ensures.ok;
-    }, search rules)
+    let row : IsRow c.args.source.now c.args.row.now numbers = rw c.as_bytes.ensures.value at read in (
+      string_bytes c.in-Ok.line,
+      record {
+        utf8 = c.utf8.row;
+        numbers = numbers;
+        is_row = row;
+        only = λ others other. one_list_of c.args.source.now c.args.row.now others numbers c.requires other row;
+        written = rw c.deref.ensures.value at c.in-Ok.ensures.ok;
+      },
+      search rules,
+    )
 
 pub returns-in-Err-clause-err : goal.returns-in-Err-clause-err
 returns-in-Err-clause-err c =
