@@ -19,23 +19,8 @@ use Rattle.sprintf.specs.declared.parser.FormatElement.TheVariants.{Verbatim, Fo
 use Rattle.sprintf.specs.declared.parser.NumericParam.{NumericParam}
 use Rattle.sprintf.specs.declared.parser.NumericParam.TheVariants.{Literal, FromArgument}
 use Rattle.reformat.specs.Format.{IsDigit, BeginsApart, IsPlain, EndsField, IsSeparated, values_of, IsRow}
-use Rattle.reformat.proofs.Pieces.{Piece, Byte, Number, piece_text, EndsPiece, ArePiecesApart, IsPieceRow}
-use Rattle.reformat.proofs.UniqueRow.{Fit, one_row}
-use Rattle.reformat.proofs.ReadsRow.{Reaches, past_byte, reaches_first}
-
--- literal bytes in front of pieces
-abbrev pub bytes_onto : List ℕ → List Piece → List Piece
-bytes_onto [] pieces = pieces
-bytes_onto (b ∷ bs) pieces = Byte b ∷ bytes_onto bs pieces
-
-abbrev pub field_piece : ConversionType → Piece
-field_piece PercentSign = Byte 37
-field_piece _ = Number
-
-abbrev pub flat : List FormatElement → List Piece
-flat [] = []
-flat (Verbatim text ∷ elements) = bytes_onto text.now (flat elements)
-flat (Format f ∷ elements) = field_piece f.conversion_type ∷ flat elements
+use Rattle.reformat.specs.Pieces.{Piece, Byte, Number, piece_text, EndsPiece, ArePiecesApart, IsPieceRow, Fit, bytes_onto, field_piece, flat}
+use Rattle.reformat.proofs.UniqueRow.{one_row}
 
 pub percent_piece : (f : ConversionSpecifier) → f.conversion_type ≡ PercentSign → field_piece f.conversion_type ≡ Byte 37
 percent_piece f is = ap field_piece is
@@ -118,7 +103,7 @@ field_takes f p n values small = ap (λ (g : ConversionSpecifier). take_field g 
 field_wants : (f : ConversionSpecifier) → IsPlain f → take_field f [] ≡ Err NotEnoughArgs
 field_wants f p = ap (λ (g : ConversionSpecifier). take_field g []) (is_plain f p) ∙ plain_wants f.precision p.precision
 
-percent_takes : (f : ConversionSpecifier) → f.conversion_type ≡ PercentSign → (values : List Meaning) → take_field f values ≡ Ok (37 ∷ [], values)
+pub percent_takes : (f : ConversionSpecifier) → f.conversion_type ≡ PercentSign → (values : List Meaning) → take_field f values ≡ Ok (37 ∷ [], values)
 percent_takes f is values = ap (λ (t : ConversionType). take_field_by t f values) is
 
 -- what is printed, piece by piece
@@ -127,11 +112,11 @@ onto_ok : (text line : List ℕ) (rest : Result (List ℕ) PrintfError) → onto
 onto_ok text line (Ok more) e = (more, refl, (let h : text ++ more ≡ line = cc in h))
 onto_ok text line (Err why) e = absurd (cc)
 
-bytes_text : (bs more : List ℕ) (pieces : List Piece) (numbers : List ℕ) → piece_text pieces numbers ≡ Some more → piece_text (bytes_onto bs pieces) numbers ≡ Some (bs ++ more)
+pub bytes_text : (bs more : List ℕ) (pieces : List Piece) (numbers : List ℕ) → piece_text pieces numbers ≡ Some more → piece_text (bytes_onto bs pieces) numbers ≡ Some (bs ++ more)
 bytes_text [] more pieces numbers e = e
 bytes_text (b ∷ bs) more pieces numbers e = ap (λ (o : Option (List ℕ)). option_map (λ t. b ∷ t) o) (bytes_text bs more pieces numbers e)
 
-then_is : (taken : Taken (List ℕ)) (text : List ℕ) (values : List Meaning) (elements : List FormatElement) → taken ≡ Ok (text, values)
+pub then_is : (taken : Taken (List ℕ)) (text : List ℕ) (values : List Meaning) (elements : List FormatElement) → taken ≡ Ok (text, values)
     → then_by taken (λ text values. onto text (printed elements values)) ≡ onto text (printed elements values)
 then_is taken text values elements e = ap (λ (t : Taken (List ℕ)). then_by t (λ text values. onto text (printed elements values))) e
 
@@ -172,13 +157,3 @@ flat_row elements line numbers apart row = record { text = flat_text elements nu
 pub one_list_of : (elements : List FormatElement) (line ns ms : List ℕ) → IsSeparated elements → IsRow elements line ns → IsRow elements line ms → ns ≡ ms
 one_list_of elements line ns ms apart one two =
     one_row (flat elements) line ns ms (flat_apart elements apart) (flat_row elements line ns apart one) (flat_row elements line ms apart two)
-
--- reading, element by element
-
-pub verbatim_step : (text : List ℕ) (pieces : List Piece) (rest read numbers : List ℕ) → Reaches (bytes_onto text pieces) rest read numbers
-    → (length text ≤ length rest) × Reaches pieces (drop (length text) rest) read numbers
-verbatim_step [] pieces rest read numbers here = (omega arith, here)
-verbatim_step (b ∷ text) pieces rest read numbers here =
-    let step = past_byte b (bytes_onto text pieces) rest read numbers here in
-    let inner = verbatim_step text pieces step.0 read numbers step.2 in
-    (subst (λ (r : List ℕ). suc (length text) ≤ length r) step.1 (omega (arith, inner.0)), subst (λ (r : List ℕ). Reaches pieces (drop (suc (length text)) r) read numbers) step.1 inner.1)

@@ -1,11 +1,14 @@
-pub mod Pieces
 pub mod LineLemmas
 pub mod UniqueRow
 pub mod FirstNumber
 pub mod ReadsRow
 pub mod FlatRow
-pub mod WordLemmas
-pub mod RewriteLemmas
+pub mod ElementLemmas
+pub mod NextLemmas
+pub mod JobLemmas
+pub mod RowLemmas
+pub mod StageLemmas
 pub mod RefusalLemmas
 pub mod ReformatLemmas
+pub mod WordLemmas
 pub mod MessageLemmas

@@ -2,7 +2,7 @@
 use Rattle.std.proofs.Common.{◌≡◌, ◌≢◌, ◌<◌, ◌^◌, ℕ, List, [], ◌∷◌, ◌++◌, refl, ap, sym, ◌∙◌, arith, codes, decimal, get_or, drop}
 use Rattle.std.proofs.lemmas.Fmt.{decimal_injective}
 use Rattle.reformat.specs.declared.error.ReformatError.{ReformatError}
-use Rattle.reformat.specs.declared.error.ReformatError.TheVariants.{Header, SourceFormat, Template, Render, NotARow, NotBuilt, NoMemory, ReadFault, WriteFault, TooLong}
+use Rattle.reformat.specs.declared.error.ReformatError.TheVariants.{Header, SourceFormat, Template, Render, NotARow, NotBuilt, NotUtf8, NoMemory, ReadFault, WriteFault, TooLong}
 use Rattle.reformat.specs.declared.error.RenderFault.TheVariants.{WrongType, TooManyArgs, NotEnoughArgs}
 use Rattle.reformat.specs.declared.error.TemplateFault.TheVariants.{Printf as PrintfTemplate}
 use Rattle.reformat.specs.Message.{message_of, line_message, line_of, MessagesDiffer}
@@ -38,6 +38,7 @@ messages_differ (Header m) (Render n WrongType) p q e = absurd (let other : 98 �
 messages_differ (Header m) (Render n TooManyArgs) p q e = absurd (let other : 98 ≡ 116 = ap (λ (t : List ℕ). get_or t 2 0) (line_and_end m n (codes "bad header") (codes "template fault: TooManyArgs") p q e).1 in omega (arith, other))
 messages_differ (Header m) (Render n NotEnoughArgs) p q e = absurd (let other : 98 ≡ 116 = ap (λ (t : List ℕ). get_or t 2 0) (line_and_end m n (codes "bad header") (codes "template fault: NotEnoughArgs") p q e).1 in omega (arith, other))
 messages_differ (Header m) (NotBuilt n) p q e = absurd (let other : 98 ≡ 110 = ap (λ (t : List ℕ). get_or t 2 0) (line_and_end m n (codes "bad header") (codes "not built") p q e).1 in omega (arith, other))
+messages_differ (Header m) (NotUtf8 n) p q e = absurd (let other : 98 ≡ 110 = ap (λ (t : List ℕ). get_or t 2 0) (line_and_end m n (codes "bad header") (codes "not UTF-8") p q e).1 in omega (arith, other))
 messages_differ (Header m) TooLong p q e = absurd (let other : 108 ≡ 105 = ap first_letter e in omega (arith, other))
 messages_differ (Header m) ReadFault p q e = absurd (let other : 108 ≡ 114 = ap first_letter e in omega (arith, other))
 messages_differ (Header m) WriteFault p q e = absurd (let other : 108 ≡ 119 = ap first_letter e in omega (arith, other))
@@ -50,6 +51,7 @@ messages_differ SourceFormat (Render n WrongType) p q e = absurd (let other : 11
 messages_differ SourceFormat (Render n TooManyArgs) p q e = absurd (let other : 110 ≡ 116 = ap (λ (t : List ℕ). get_or t 2 0) (line_and_end 2 n (codes "not a printf format") (codes "template fault: TooManyArgs") p q e).1 in omega (arith, other))
 messages_differ SourceFormat (Render n NotEnoughArgs) p q e = absurd (let other : 110 ≡ 116 = ap (λ (t : List ℕ). get_or t 2 0) (line_and_end 2 n (codes "not a printf format") (codes "template fault: NotEnoughArgs") p q e).1 in omega (arith, other))
 messages_differ SourceFormat (NotBuilt n) p q e = absurd (let other : 97 ≡ 98 = ap (λ (t : List ℕ). get_or t 6 0) (line_and_end 2 n (codes "not a printf format") (codes "not built") p q e).1 in omega (arith, other))
+messages_differ SourceFormat (NotUtf8 n) p q e = absurd (let other : 97 ≡ 85 = ap (λ (t : List ℕ). get_or t 6 0) (line_and_end 2 n (codes "not a printf format") (codes "not UTF-8") p q e).1 in omega (arith, other))
 messages_differ SourceFormat TooLong p q e = absurd (let other : 108 ≡ 105 = ap first_letter e in omega (arith, other))
 messages_differ SourceFormat ReadFault p q e = absurd (let other : 108 ≡ 114 = ap first_letter e in omega (arith, other))
 messages_differ SourceFormat WriteFault p q e = absurd (let other : 108 ≡ 119 = ap first_letter e in omega (arith, other))
@@ -62,6 +64,7 @@ messages_differ (Template PrintfTemplate) (Render n WrongType) p q e = absurd (l
 messages_differ (Template PrintfTemplate) (Render n TooManyArgs) p q e = absurd (let other : 110 ≡ 116 = ap (λ (t : List ℕ). get_or t 2 0) (line_and_end 4 n (codes "not a printf template") (codes "template fault: TooManyArgs") p q e).1 in omega (arith, other))
 messages_differ (Template PrintfTemplate) (Render n NotEnoughArgs) p q e = absurd (let other : 110 ≡ 116 = ap (λ (t : List ℕ). get_or t 2 0) (line_and_end 4 n (codes "not a printf template") (codes "template fault: NotEnoughArgs") p q e).1 in omega (arith, other))
 messages_differ (Template PrintfTemplate) (NotBuilt n) p q e = absurd (let other : 97 ≡ 98 = ap (λ (t : List ℕ). get_or t 6 0) (line_and_end 4 n (codes "not a printf template") (codes "not built") p q e).1 in omega (arith, other))
+messages_differ (Template PrintfTemplate) (NotUtf8 n) p q e = absurd (let other : 97 ≡ 85 = ap (λ (t : List ℕ). get_or t 6 0) (line_and_end 4 n (codes "not a printf template") (codes "not UTF-8") p q e).1 in omega (arith, other))
 messages_differ (Template PrintfTemplate) TooLong p q e = absurd (let other : 108 ≡ 105 = ap first_letter e in omega (arith, other))
 messages_differ (Template PrintfTemplate) ReadFault p q e = absurd (let other : 108 ≡ 114 = ap first_letter e in omega (arith, other))
 messages_differ (Template PrintfTemplate) WriteFault p q e = absurd (let other : 108 ≡ 119 = ap first_letter e in omega (arith, other))
@@ -74,6 +77,7 @@ messages_differ (NotARow m) (Render n WrongType) p q e = absurd (let other : 110
 messages_differ (NotARow m) (Render n TooManyArgs) p q e = absurd (let other : 110 ≡ 116 = ap (λ (t : List ℕ). get_or t 2 0) (line_and_end m n (codes "not a row") (codes "template fault: TooManyArgs") p q e).1 in omega (arith, other))
 messages_differ (NotARow m) (Render n NotEnoughArgs) p q e = absurd (let other : 110 ≡ 116 = ap (λ (t : List ℕ). get_or t 2 0) (line_and_end m n (codes "not a row") (codes "template fault: NotEnoughArgs") p q e).1 in omega (arith, other))
 messages_differ (NotARow m) (NotBuilt n) p q e = absurd (let other : 97 ≡ 98 = ap (λ (t : List ℕ). get_or t 6 0) (line_and_end m n (codes "not a row") (codes "not built") p q e).1 in omega (arith, other))
+messages_differ (NotARow m) (NotUtf8 n) p q e = absurd (let other : 97 ≡ 85 = ap (λ (t : List ℕ). get_or t 6 0) (line_and_end m n (codes "not a row") (codes "not UTF-8") p q e).1 in omega (arith, other))
 messages_differ (NotARow m) TooLong p q e = absurd (let other : 108 ≡ 105 = ap first_letter e in omega (arith, other))
 messages_differ (NotARow m) ReadFault p q e = absurd (let other : 108 ≡ 114 = ap first_letter e in omega (arith, other))
 messages_differ (NotARow m) WriteFault p q e = absurd (let other : 108 ≡ 119 = ap first_letter e in omega (arith, other))
@@ -86,6 +90,7 @@ messages_differ (Render m WrongType) (Render n WrongType) p q e = ap (λ (l : �
 messages_differ (Render m WrongType) (Render n TooManyArgs) p q e = absurd (let other : 87 ≡ 84 = ap (λ (t : List ℕ). get_or t 18 0) (line_and_end m n (codes "template fault: WrongType") (codes "template fault: TooManyArgs") p q e).1 in omega (arith, other))
 messages_differ (Render m WrongType) (Render n NotEnoughArgs) p q e = absurd (let other : 87 ≡ 78 = ap (λ (t : List ℕ). get_or t 18 0) (line_and_end m n (codes "template fault: WrongType") (codes "template fault: NotEnoughArgs") p q e).1 in omega (arith, other))
 messages_differ (Render m WrongType) (NotBuilt n) p q e = absurd (let other : 116 ≡ 110 = ap (λ (t : List ℕ). get_or t 2 0) (line_and_end m n (codes "template fault: WrongType") (codes "not built") p q e).1 in omega (arith, other))
+messages_differ (Render m WrongType) (NotUtf8 n) p q e = absurd (let other : 116 ≡ 110 = ap (λ (t : List ℕ). get_or t 2 0) (line_and_end m n (codes "template fault: WrongType") (codes "not UTF-8") p q e).1 in omega (arith, other))
 messages_differ (Render m WrongType) TooLong p q e = absurd (let other : 108 ≡ 105 = ap first_letter e in omega (arith, other))
 messages_differ (Render m WrongType) ReadFault p q e = absurd (let other : 108 ≡ 114 = ap first_letter e in omega (arith, other))
 messages_differ (Render m WrongType) WriteFault p q e = absurd (let other : 108 ≡ 119 = ap first_letter e in omega (arith, other))
@@ -98,6 +103,7 @@ messages_differ (Render m TooManyArgs) (Render n WrongType) p q e = absurd (let 
 messages_differ (Render m TooManyArgs) (Render n TooManyArgs) p q e = ap (λ (l : ℕ). Render l TooManyArgs) (line_and_end m n (codes "template fault: TooManyArgs") (codes "template fault: TooManyArgs") p q e).0
 messages_differ (Render m TooManyArgs) (Render n NotEnoughArgs) p q e = absurd (let other : 84 ≡ 78 = ap (λ (t : List ℕ). get_or t 18 0) (line_and_end m n (codes "template fault: TooManyArgs") (codes "template fault: NotEnoughArgs") p q e).1 in omega (arith, other))
 messages_differ (Render m TooManyArgs) (NotBuilt n) p q e = absurd (let other : 116 ≡ 110 = ap (λ (t : List ℕ). get_or t 2 0) (line_and_end m n (codes "template fault: TooManyArgs") (codes "not built") p q e).1 in omega (arith, other))
+messages_differ (Render m TooManyArgs) (NotUtf8 n) p q e = absurd (let other : 116 ≡ 110 = ap (λ (t : List ℕ). get_or t 2 0) (line_and_end m n (codes "template fault: TooManyArgs") (codes "not UTF-8") p q e).1 in omega (arith, other))
 messages_differ (Render m TooManyArgs) TooLong p q e = absurd (let other : 108 ≡ 105 = ap first_letter e in omega (arith, other))
 messages_differ (Render m TooManyArgs) ReadFault p q e = absurd (let other : 108 ≡ 114 = ap first_letter e in omega (arith, other))
 messages_differ (Render m TooManyArgs) WriteFault p q e = absurd (let other : 108 ≡ 119 = ap first_letter e in omega (arith, other))
@@ -110,22 +116,37 @@ messages_differ (Render m NotEnoughArgs) (Render n WrongType) p q e = absurd (le
 messages_differ (Render m NotEnoughArgs) (Render n TooManyArgs) p q e = absurd (let other : 78 ≡ 84 = ap (λ (t : List ℕ). get_or t 18 0) (line_and_end m n (codes "template fault: NotEnoughArgs") (codes "template fault: TooManyArgs") p q e).1 in omega (arith, other))
 messages_differ (Render m NotEnoughArgs) (Render n NotEnoughArgs) p q e = ap (λ (l : ℕ). Render l NotEnoughArgs) (line_and_end m n (codes "template fault: NotEnoughArgs") (codes "template fault: NotEnoughArgs") p q e).0
 messages_differ (Render m NotEnoughArgs) (NotBuilt n) p q e = absurd (let other : 116 ≡ 110 = ap (λ (t : List ℕ). get_or t 2 0) (line_and_end m n (codes "template fault: NotEnoughArgs") (codes "not built") p q e).1 in omega (arith, other))
+messages_differ (Render m NotEnoughArgs) (NotUtf8 n) p q e = absurd (let other : 116 ≡ 110 = ap (λ (t : List ℕ). get_or t 2 0) (line_and_end m n (codes "template fault: NotEnoughArgs") (codes "not UTF-8") p q e).1 in omega (arith, other))
 messages_differ (Render m NotEnoughArgs) TooLong p q e = absurd (let other : 108 ≡ 105 = ap first_letter e in omega (arith, other))
 messages_differ (Render m NotEnoughArgs) ReadFault p q e = absurd (let other : 108 ≡ 114 = ap first_letter e in omega (arith, other))
 messages_differ (Render m NotEnoughArgs) WriteFault p q e = absurd (let other : 108 ≡ 119 = ap first_letter e in omega (arith, other))
 messages_differ (Render m NotEnoughArgs) NoMemory p q e = absurd (let other : 108 ≡ 110 = ap first_letter e in omega (arith, other))
 messages_differ (NotBuilt m) (Header n) p q e = absurd (let other : 110 ≡ 98 = ap (λ (t : List ℕ). get_or t 2 0) (line_and_end m n (codes "not built") (codes "bad header") p q e).1 in omega (arith, other))
+messages_differ (NotUtf8 m) (Header n) p q e = absurd (let other : 110 ≡ 98 = ap (λ (t : List ℕ). get_or t 2 0) (line_and_end m n (codes "not UTF-8") (codes "bad header") p q e).1 in omega (arith, other))
 messages_differ (NotBuilt m) SourceFormat p q e = absurd (let other : 98 ≡ 97 = ap (λ (t : List ℕ). get_or t 6 0) (line_and_end m 2 (codes "not built") (codes "not a printf format") p q e).1 in omega (arith, other))
+messages_differ (NotUtf8 m) SourceFormat p q e = absurd (let other : 85 ≡ 97 = ap (λ (t : List ℕ). get_or t 6 0) (line_and_end m 2 (codes "not UTF-8") (codes "not a printf format") p q e).1 in omega (arith, other))
 messages_differ (NotBuilt m) (Template PrintfTemplate) p q e = absurd (let other : 98 ≡ 97 = ap (λ (t : List ℕ). get_or t 6 0) (line_and_end m 4 (codes "not built") (codes "not a printf template") p q e).1 in omega (arith, other))
+messages_differ (NotUtf8 m) (Template PrintfTemplate) p q e = absurd (let other : 85 ≡ 97 = ap (λ (t : List ℕ). get_or t 6 0) (line_and_end m 4 (codes "not UTF-8") (codes "not a printf template") p q e).1 in omega (arith, other))
 messages_differ (NotBuilt m) (NotARow n) p q e = absurd (let other : 98 ≡ 97 = ap (λ (t : List ℕ). get_or t 6 0) (line_and_end m n (codes "not built") (codes "not a row") p q e).1 in omega (arith, other))
+messages_differ (NotUtf8 m) (NotARow n) p q e = absurd (let other : 85 ≡ 97 = ap (λ (t : List ℕ). get_or t 6 0) (line_and_end m n (codes "not UTF-8") (codes "not a row") p q e).1 in omega (arith, other))
 messages_differ (NotBuilt m) (Render n WrongType) p q e = absurd (let other : 110 ≡ 116 = ap (λ (t : List ℕ). get_or t 2 0) (line_and_end m n (codes "not built") (codes "template fault: WrongType") p q e).1 in omega (arith, other))
+messages_differ (NotUtf8 m) (Render n WrongType) p q e = absurd (let other : 110 ≡ 116 = ap (λ (t : List ℕ). get_or t 2 0) (line_and_end m n (codes "not UTF-8") (codes "template fault: WrongType") p q e).1 in omega (arith, other))
 messages_differ (NotBuilt m) (Render n TooManyArgs) p q e = absurd (let other : 110 ≡ 116 = ap (λ (t : List ℕ). get_or t 2 0) (line_and_end m n (codes "not built") (codes "template fault: TooManyArgs") p q e).1 in omega (arith, other))
+messages_differ (NotUtf8 m) (Render n TooManyArgs) p q e = absurd (let other : 110 ≡ 116 = ap (λ (t : List ℕ). get_or t 2 0) (line_and_end m n (codes "not UTF-8") (codes "template fault: TooManyArgs") p q e).1 in omega (arith, other))
 messages_differ (NotBuilt m) (Render n NotEnoughArgs) p q e = absurd (let other : 110 ≡ 116 = ap (λ (t : List ℕ). get_or t 2 0) (line_and_end m n (codes "not built") (codes "template fault: NotEnoughArgs") p q e).1 in omega (arith, other))
+messages_differ (NotUtf8 m) (Render n NotEnoughArgs) p q e = absurd (let other : 110 ≡ 116 = ap (λ (t : List ℕ). get_or t 2 0) (line_and_end m n (codes "not UTF-8") (codes "template fault: NotEnoughArgs") p q e).1 in omega (arith, other))
 messages_differ (NotBuilt m) (NotBuilt n) p q e = ap NotBuilt (line_and_end m n (codes "not built") (codes "not built") p q e).0
+messages_differ (NotUtf8 m) (NotUtf8 n) p q e = ap NotUtf8 (line_and_end m n (codes "not UTF-8") (codes "not UTF-8") p q e).0
+messages_differ (NotBuilt m) (NotUtf8 n) p q e = absurd (let other : 98 ≡ 85 = ap (λ (t : List ℕ). get_or t 6 0) (line_and_end m n (codes "not built") (codes "not UTF-8") p q e).1 in omega (arith, other))
+messages_differ (NotUtf8 m) (NotBuilt n) p q e = absurd (let other : 85 ≡ 98 = ap (λ (t : List ℕ). get_or t 6 0) (line_and_end m n (codes "not UTF-8") (codes "not built") p q e).1 in omega (arith, other))
 messages_differ (NotBuilt m) TooLong p q e = absurd (let other : 108 ≡ 105 = ap first_letter e in omega (arith, other))
+messages_differ (NotUtf8 m) TooLong p q e = absurd (let other : 108 ≡ 105 = ap first_letter e in omega (arith, other))
 messages_differ (NotBuilt m) ReadFault p q e = absurd (let other : 108 ≡ 114 = ap first_letter e in omega (arith, other))
+messages_differ (NotUtf8 m) ReadFault p q e = absurd (let other : 108 ≡ 114 = ap first_letter e in omega (arith, other))
 messages_differ (NotBuilt m) WriteFault p q e = absurd (let other : 108 ≡ 119 = ap first_letter e in omega (arith, other))
+messages_differ (NotUtf8 m) WriteFault p q e = absurd (let other : 108 ≡ 119 = ap first_letter e in omega (arith, other))
 messages_differ (NotBuilt m) NoMemory p q e = absurd (let other : 108 ≡ 110 = ap first_letter e in omega (arith, other))
+messages_differ (NotUtf8 m) NoMemory p q e = absurd (let other : 108 ≡ 110 = ap first_letter e in omega (arith, other))
 messages_differ TooLong (Header n) p q e = absurd (let other : 105 ≡ 108 = ap first_letter e in omega (arith, other))
 messages_differ TooLong SourceFormat p q e = absurd (let other : 105 ≡ 108 = ap first_letter e in omega (arith, other))
 messages_differ TooLong (Template PrintfTemplate) p q e = absurd (let other : 105 ≡ 108 = ap first_letter e in omega (arith, other))
@@ -134,6 +155,7 @@ messages_differ TooLong (Render n WrongType) p q e = absurd (let other : 105 ≡
 messages_differ TooLong (Render n TooManyArgs) p q e = absurd (let other : 105 ≡ 108 = ap first_letter e in omega (arith, other))
 messages_differ TooLong (Render n NotEnoughArgs) p q e = absurd (let other : 105 ≡ 108 = ap first_letter e in omega (arith, other))
 messages_differ TooLong (NotBuilt n) p q e = absurd (let other : 105 ≡ 108 = ap first_letter e in omega (arith, other))
+messages_differ TooLong (NotUtf8 n) p q e = absurd (let other : 105 ≡ 108 = ap first_letter e in omega (arith, other))
 messages_differ TooLong TooLong p q e = refl
 messages_differ TooLong ReadFault p q e = absurd (let other : 105 ≡ 114 = ap first_letter e in omega (arith, other))
 messages_differ TooLong WriteFault p q e = absurd (let other : 105 ≡ 119 = ap first_letter e in omega (arith, other))
@@ -146,6 +168,7 @@ messages_differ ReadFault (Render n WrongType) p q e = absurd (let other : 114 �
 messages_differ ReadFault (Render n TooManyArgs) p q e = absurd (let other : 114 ≡ 108 = ap first_letter e in omega (arith, other))
 messages_differ ReadFault (Render n NotEnoughArgs) p q e = absurd (let other : 114 ≡ 108 = ap first_letter e in omega (arith, other))
 messages_differ ReadFault (NotBuilt n) p q e = absurd (let other : 114 ≡ 108 = ap first_letter e in omega (arith, other))
+messages_differ ReadFault (NotUtf8 n) p q e = absurd (let other : 114 ≡ 108 = ap first_letter e in omega (arith, other))
 messages_differ ReadFault TooLong p q e = absurd (let other : 114 ≡ 105 = ap first_letter e in omega (arith, other))
 messages_differ ReadFault ReadFault p q e = refl
 messages_differ ReadFault WriteFault p q e = absurd (let other : 114 ≡ 119 = ap first_letter e in omega (arith, other))
@@ -158,6 +181,7 @@ messages_differ WriteFault (Render n WrongType) p q e = absurd (let other : 119 
 messages_differ WriteFault (Render n TooManyArgs) p q e = absurd (let other : 119 ≡ 108 = ap first_letter e in omega (arith, other))
 messages_differ WriteFault (Render n NotEnoughArgs) p q e = absurd (let other : 119 ≡ 108 = ap first_letter e in omega (arith, other))
 messages_differ WriteFault (NotBuilt n) p q e = absurd (let other : 119 ≡ 108 = ap first_letter e in omega (arith, other))
+messages_differ WriteFault (NotUtf8 n) p q e = absurd (let other : 119 ≡ 108 = ap first_letter e in omega (arith, other))
 messages_differ WriteFault TooLong p q e = absurd (let other : 119 ≡ 105 = ap first_letter e in omega (arith, other))
 messages_differ WriteFault ReadFault p q e = absurd (let other : 119 ≡ 114 = ap first_letter e in omega (arith, other))
 messages_differ WriteFault WriteFault p q e = refl
@@ -170,6 +194,7 @@ messages_differ NoMemory (Render n WrongType) p q e = absurd (let other : 110 �
 messages_differ NoMemory (Render n TooManyArgs) p q e = absurd (let other : 110 ≡ 108 = ap first_letter e in omega (arith, other))
 messages_differ NoMemory (Render n NotEnoughArgs) p q e = absurd (let other : 110 ≡ 108 = ap first_letter e in omega (arith, other))
 messages_differ NoMemory (NotBuilt n) p q e = absurd (let other : 110 ≡ 108 = ap first_letter e in omega (arith, other))
+messages_differ NoMemory (NotUtf8 n) p q e = absurd (let other : 110 ≡ 108 = ap first_letter e in omega (arith, other))
 messages_differ NoMemory TooLong p q e = absurd (let other : 110 ≡ 105 = ap first_letter e in omega (arith, other))
 messages_differ NoMemory ReadFault p q e = absurd (let other : 110 ≡ 114 = ap first_letter e in omega (arith, other))
 messages_differ NoMemory WriteFault p q e = absurd (let other : 110 ≡ 119 = ap first_letter e in omega (arith, other))

@@ -1,5 +1,5 @@
 -- The lines have one refusal at most, and none where they are rewritten.
-use Rattle.std.proofs.Common.{◌≡◌, ◌≢◌, ◌⊎◌, ◌+◌, ℕ, List, [], ◌∷◌, sym, ◌∙◌, ap, subst, refl, inl, inr, All, length, arith, rules, codes, Result, Ok, Err}
+use Rattle.std.proofs.Common.{◌≡◌, ◌≢◌, ◌⊎◌, ◌+◌, ◌≤◌, ℕ, List, [], ◌∷◌, sym, ◌∙◌, ap, subst, refl, inl, inr, All, length, arith, rules, codes, Result, Ok, Err}
 use Rattle.sprintf.specs.Printed.{printed}
 use Rattle.sprintf.specs.Meaning.{Meaning}
 use Rattle.sprintf.specs.declared.PrintfError.{PrintfError}
@@ -20,11 +20,12 @@ use Rattle.reformat.specs.declared.error.ReformatError.{ReformatError}
 use Rattle.reformat.specs.declared.kind.Kind.TheVariants.{U64}
 use Rattle.reformat.specs.declared.kind.Dialect.{Dialect}
 use Rattle.reformat.specs.declared.kind.Dialect.TheVariants.{Printf, Strfmt, Formatx}
-use Rattle.reformat.specs.Lines.{lines_of, words_of}
+use Rattle.whiteread.specs.Lines.{lines_of}
+use Rattle.reformat.specs.Lines.{words_of}
 use Rattle.reformat.specs.Kinds.{NamesKind, NamesU64, AreDialect, dialect_word}
 use Rattle.reformat.specs.Headers.{IsKindsLine, IsSourceLine, IsDialectLine, IsTemplateLine, HasHeaders}
-use Rattle.reformat.specs.Rewrite.{IsTextOf, IsRewrittenAs, IsRewritten}
-use Rattle.reformat.specs.Refusal.{RefusesKinds, RefusesSource, RefusesDialect, RefusesTemplate, RefusesRow, IsKept, RefusesRows, RefusesFromTemplate, RefusesFromDialect, RefusesFromSource, RefusesLines}
+use Rattle.reformat.specs.Rewrite.{IsTextOf, IsRewrittenAs, IsRewritten, AreKept, AreKeptFromSource, AreKeptFromDialect, AreKeptFromTemplate}
+use Rattle.reformat.specs.Refusal.{RefusesKinds, RefusesSource, RefusesDialect, RefusesTemplate, RefusesRow, RefusesRows, RefusesFromTemplate, RefusesFromDialect, RefusesFromSource, RefusesLines}
 use Rattle.reformat.specs.Refusal.RefusesKinds.{not_utf8 as kinds_not_utf8, no_kind, other_kind}
 use Rattle.reformat.specs.Refusal.RefusesSource.{not_utf8 as source_not_utf8, no_format, other_form}
 use Rattle.reformat.specs.Refusal.RefusesDialect.{not_utf8 as dialect_not_utf8, no_dialect, other_dialect}
@@ -45,29 +46,30 @@ refusal_moves a b c d number row why p q (no_list utf8 none e) = no_list utf8 (�
 refusal_moves a b c d number row why p q (no_text utf8 numbers is cause refused fault told e) =
     no_text utf8 numbers (row_moves a b row numbers p is) cause (sym (q (values_of numbers)) ∙ refused) fault told e
 
-kept_moves : (a b c d : List FormatElement) (row : List ℕ) → PrintsSame a b → PrintsSame c d → IsKept a c row → IsKept b d row
-kept_moves a b c d row p q kept = record {
+written_moves : (a b c d : List FormatElement) (row line : List ℕ) → PrintsSame a b → PrintsSame c d → IsRewrittenAs a c row line → IsRewrittenAs b d row line
+written_moves a b c d row line p q kept = record {
   utf8 = kept.utf8;
   numbers = kept.numbers;
   is_row = row_moves a b row kept.numbers p kept.is_row;
-  line = kept.line;
+  only = λ others is. kept.only others (row_moves b a row others (λ values. sym (p values)) is);
   written = sym (q (values_of kept.numbers)) ∙ kept.written;
 }
 
-rows_move : (a b c d : List FormatElement) (number : ℕ) (rows : List (List ℕ)) (why : ReformatError) → PrintsSame a b → PrintsSame c d → RefusesRows a c number rows why → RefusesRows b d number rows why
-rows_move a b c d number [] why p q refused = refused
-rows_move a b c d number (row ∷ rows) why p q (inl refused) = inl (refusal_moves a b c d number row why p q refused)
-rows_move a b c d number (row ∷ rows) why p q (inr refused) = inr (kept_moves a b c d row p q refused.0, rows_move a b c d (number + 1) rows why p q refused.1)
+rows_move : (a b c d : List FormatElement) (number : ℕ) (rows : List (List ℕ)) (text : List ℕ) (why : ReformatError) → PrintsSame a b → PrintsSame c d → RefusesRows a c number rows text why → RefusesRows b d number rows text why
+rows_move a b c d number [] text why p q refused = refused
+rows_move a b c d number (row ∷ rows) text why p q (inl refused) = inl (refusal_moves a b c d number row why p q refused.0, refused.1)
+rows_move a b c d number (row ∷ rows) text why p q (inr refused) =
+    inr (refused.0, refused.1, written_moves a b c d row refused.0 p q refused.2, refused.3, rows_move a b c d (number + 1) rows refused.1 why p q refused.4)
 
-from_template_moves : (a b : List FormatElement) (lines : List (List ℕ)) (why : ReformatError) → PrintsSame a b → RefusesFromTemplate a lines why → RefusesFromTemplate b lines why
-from_template_moves a b [] why p refused = refused
-from_template_moves a b (line ∷ rows) why p (inl refused) = inl refused
-from_template_moves a b (line ∷ rows) why p (inr refused) = inr (refused.0, refused.1, rows_move a b refused.0 refused.0 5 rows why p (λ values. refl) refused.2)
+from_template_moves : (e : Type 0) (a b : List FormatElement) (lines : List (List ℕ)) (text : List ℕ) (why : ReformatError) → PrintsSame a b → RefusesFromTemplate e a lines text why → RefusesFromTemplate e b lines text why
+from_template_moves e a b [] text why p refused = refused
+from_template_moves e a b (line ∷ rows) text why p (inl refused) = inl refused
+from_template_moves e a b (line ∷ rows) text why p (inr refused) = inr (refused.0, refused.1, rows_move a b refused.0 refused.0 5 rows text why p (λ values. refl) refused.2)
 
-from_dialect_moves : (a b : List FormatElement) (lines : List (List ℕ)) (why : ReformatError) → PrintsSame a b → RefusesFromDialect a lines why → RefusesFromDialect b lines why
-from_dialect_moves a b [] why p refused = refused
-from_dialect_moves a b (line ∷ lines) why p (inl refused) = inl refused
-from_dialect_moves a b (line ∷ lines) why p (inr refused) = inr (refused.0, from_template_moves a b lines why p refused.1)
+from_dialect_moves : (e : Type 0) (a b : List FormatElement) (lines : List (List ℕ)) (text : List ℕ) (why : ReformatError) → PrintsSame a b → RefusesFromDialect e a lines text why → RefusesFromDialect e b lines text why
+from_dialect_moves e a b [] text why p refused = refused
+from_dialect_moves e a b (line ∷ lines) text why p (inl refused) = inl refused
+from_dialect_moves e a b (line ∷ lines) text why p (inr refused) = inr (refused.0, from_template_moves e a b lines text why p refused.1)
 
 -- rows
 
@@ -90,11 +92,11 @@ one_cause template ns ms a b same p q =
     let both : Err a ≡ Err b = sym p ∙ ap (λ (xs : List ℕ). printed template (values_of xs)) same ∙ q in
     cc
 
-row_is_kept : (source template : List FormatElement) (number : ℕ) (row : List ℕ) (why : ReformatError) → IsSeparated source → IsKept source template row → ¬ RefusesRow source template number row why
-row_is_kept source template number row why apart kept (row_not_utf8 bad e) = bad kept.utf8
-row_is_kept source template number row why apart kept (no_list utf8 none e) = none kept.numbers kept.is_row
-row_is_kept source template number row why apart kept (no_text utf8 numbers is cause refused fault told e) =
-    text_or_refusal template kept.numbers numbers kept.line cause (one_list_of source row kept.numbers numbers apart kept.is_row is) kept.written refused
+row_is_kept : (source template : List FormatElement) (number : ℕ) (row line : List ℕ) (why : ReformatError) → IsSeparated source → IsRewrittenAs source template row line → ¬ RefusesRow source template number row why
+row_is_kept source template number row line why apart kept (row_not_utf8 bad e) = bad kept.utf8
+row_is_kept source template number row line why apart kept (no_list utf8 none e) = none kept.numbers kept.is_row
+row_is_kept source template number row line why apart kept (no_text utf8 numbers is cause refused fault told e) =
+    text_or_refusal template kept.numbers numbers line cause (sym (kept.only numbers is)) kept.written refused
 
 row_one : (source template : List FormatElement) (number : ℕ) (row : List ℕ) (a b : ReformatError) → IsSeparated source → RefusesRow source template number row a → RefusesRow source template number row b → a ≡ b
 row_one source template number row a b apart (row_not_utf8 p e) (row_not_utf8 q f) = e ∙ sym f
@@ -110,19 +112,17 @@ row_one source template number row a b apart (no_text p ns is cause refused faul
     let faults : fault ≡ fault' = one_fault cause' fault fault' (subst (λ (c : PrintfError). IsFaultOf c fault) same told) told' in
     e ∙ ap (λ (x : RenderFault). Render number x) faults ∙ sym f
 
-rows_one : (source template : List FormatElement) (number : ℕ) (rows : List (List ℕ)) (a b : ReformatError) → IsSeparated source → RefusesRows source template number rows a → RefusesRows source template number rows b → a ≡ b
-rows_one source template number [] a b apart p q = absurd p
-rows_one source template number (row ∷ rows) a b apart (inl p) (inl q) = row_one source template number row a b apart p q
-rows_one source template number (row ∷ rows) a b apart (inl p) (inr q) = absurd (row_is_kept source template number row a apart q.0 p)
-rows_one source template number (row ∷ rows) a b apart (inr p) (inl q) = absurd (row_is_kept source template number row b apart p.0 q)
-rows_one source template number (row ∷ rows) a b apart (inr p) (inr q) = rows_one source template (number + 1) rows a b apart p.1 q.1
+rows_one : (source template : List FormatElement) (number : ℕ) (rows : List (List ℕ)) (s t : List ℕ) (a b : ReformatError) → IsSeparated source → RefusesRows source template number rows s a → RefusesRows source template number rows t b → a ≡ b
+rows_one source template number [] s t a b apart p q = absurd p
+rows_one source template number (row ∷ rows) s t a b apart (inl p) (inl q) = row_one source template number row a b apart p.0 q.0
+rows_one source template number (row ∷ rows) s t a b apart (inl p) (inr q) = absurd (row_is_kept source template number row q.0 a apart q.2 p.0)
+rows_one source template number (row ∷ rows) s t a b apart (inr p) (inl q) = absurd (row_is_kept source template number row p.0 b apart p.2 q.0)
+rows_one source template number (row ∷ rows) s t a b apart (inr p) (inr q) = rows_one source template (number + 1) rows p.1 q.1 a b apart p.4 q.4
 
-rows_written : (source template : List FormatElement) (number : ℕ) (rows : List (List ℕ)) (text : List ℕ) (why : ReformatError) → IsSeparated source → IsTextOf source template rows text → ¬ RefusesRows source template number rows why
-rows_written source template number [] text why apart written refused = refused
-rows_written source template number (row ∷ rows) text why apart written (inl refused) =
-    let row_text : IsRewrittenAs source template row written.0 = written.2 in
-    row_is_kept source template number row why apart (record { utf8 = row_text.utf8; numbers = row_text.numbers; is_row = row_text.is_row; line = written.0; written = row_text.written }) refused
-rows_written source template number (row ∷ rows) text why apart written (inr refused) = rows_written source template (number + 1) rows written.1 why apart written.4 refused.1
+rows_written : (source template : List FormatElement) (number : ℕ) (rows : List (List ℕ)) (text other : List ℕ) (why : ReformatError) → IsSeparated source → IsTextOf source template rows text → ¬ RefusesRows source template number rows other why
+rows_written source template number [] text other why apart written refused = refused
+rows_written source template number (row ∷ rows) text other why apart written (inl refused) = row_is_kept source template number row written.0 why apart written.2 refused.0
+rows_written source template number (row ∷ rows) text other why apart written (inr refused) = rows_written source template (number + 1) rows written.1 refused.1 why apart written.4 refused.4
 
 -- line 4
 
@@ -140,13 +140,13 @@ template_one line a b (no_template p none e) (no_template q some f) = e ∙ sym 
 same_template : (line : List ℕ) (s t : List FormatElement) → IsTemplateLine line s → IsTemplateLine line t → PrintsSame s t
 same_template line s t p q = λ values. one_value line s t values p.format q.format
 
-from_template_one : (source : List FormatElement) (lines : List (List ℕ)) (a b : ReformatError) → IsSeparated source → RefusesFromTemplate source lines a → RefusesFromTemplate source lines b → a ≡ b
-from_template_one source [] a b apart p q = p ∙ sym q
-from_template_one source (line ∷ rows) a b apart (inl p) (inl q) = template_one line a b p q
-from_template_one source (line ∷ rows) a b apart (inl p) (inr q) = absurd (template_is_kept line q.0 a q.1 p)
-from_template_one source (line ∷ rows) a b apart (inr p) (inl q) = absurd (template_is_kept line p.0 b p.1 q)
-from_template_one source (line ∷ rows) a b apart (inr p) (inr q) =
-    rows_one source p.0 5 rows a b apart p.2 (rows_move source source q.0 p.0 5 rows b (λ values. refl) (same_template line q.0 p.0 q.1 p.1) q.2)
+from_template_one : (e : Type 0) (source : List FormatElement) (lines : List (List ℕ)) (s t : List ℕ) (a b : ReformatError) → IsSeparated source → RefusesFromTemplate e source lines s a → RefusesFromTemplate e source lines t b → a ≡ b
+from_template_one e source [] s t a b apart p q = p.2 ∙ sym q.2
+from_template_one e source (line ∷ rows) s t a b apart (inl p) (inl q) = template_one line a b p.0 q.0
+from_template_one e source (line ∷ rows) s t a b apart (inl p) (inr q) = absurd (template_is_kept line q.0 a q.1 p.0)
+from_template_one e source (line ∷ rows) s t a b apart (inr p) (inl q) = absurd (template_is_kept line p.0 b p.1 q.0)
+from_template_one e source (line ∷ rows) s t a b apart (inr p) (inr q) =
+    rows_one source p.0 5 rows s t a b apart p.2 (rows_move source source q.0 p.0 5 rows t b (λ values. refl) (same_template line q.0 p.0 q.1 p.1) q.2)
 
 -- line 3
 
@@ -181,12 +181,12 @@ dialect_one line a b (other_dialect p d named other e) (dialect_not_utf8 q f) = 
 dialect_one line a b (other_dialect p d named other e) (no_dialect q none f) = absurd (none d named)
 dialect_one line a b (other_dialect p d named other e) (other_dialect q d' named' other' f) = e ∙ sym f
 
-from_dialect_one : (source : List FormatElement) (lines : List (List ℕ)) (a b : ReformatError) → IsSeparated source → RefusesFromDialect source lines a → RefusesFromDialect source lines b → a ≡ b
-from_dialect_one source [] a b apart p q = p ∙ sym q
-from_dialect_one source (line ∷ lines) a b apart (inl p) (inl q) = dialect_one line a b p q
-from_dialect_one source (line ∷ lines) a b apart (inl p) (inr q) = absurd (dialect_is_kept line a q.0 p)
-from_dialect_one source (line ∷ lines) a b apart (inr p) (inl q) = absurd (dialect_is_kept line b p.0 q)
-from_dialect_one source (line ∷ lines) a b apart (inr p) (inr q) = from_template_one source lines a b apart p.1 q.1
+from_dialect_one : (e : Type 0) (source : List FormatElement) (lines : List (List ℕ)) (s t : List ℕ) (a b : ReformatError) → IsSeparated source → RefusesFromDialect e source lines s a → RefusesFromDialect e source lines t b → a ≡ b
+from_dialect_one e source [] s t a b apart p q = p.2 ∙ sym q.2
+from_dialect_one e source (line ∷ lines) s t a b apart (inl p) (inl q) = dialect_one line a b p.0 q.0
+from_dialect_one e source (line ∷ lines) s t a b apart (inl p) (inr q) = absurd (dialect_is_kept line a q.0 p.0)
+from_dialect_one e source (line ∷ lines) s t a b apart (inr p) (inl q) = absurd (dialect_is_kept line b p.0 q.0)
+from_dialect_one e source (line ∷ lines) s t a b apart (inr p) (inr q) = from_template_one e source lines s t a b apart p.1 q.1
 
 -- line 2
 
@@ -248,14 +248,14 @@ source_one kinds line a b (other_form p es is not e) (other_form q es' is' not' 
 same_source : (kinds : ℕ) (line : List ℕ) (s t : List FormatElement) → IsSourceLine kinds line s → IsSourceLine kinds line t → PrintsSame s t
 same_source kinds line s t p q = λ values. one_value line s t values p.format q.format
 
-from_source_one : (kinds : ℕ) (lines : List (List ℕ)) (a b : ReformatError) → RefusesFromSource kinds lines a → RefusesFromSource kinds lines b → a ≡ b
-from_source_one kinds [] a b p q = p ∙ sym q
-from_source_one kinds (line ∷ lines) a b (inl p) (inl q) = source_one kinds line a b p q
-from_source_one kinds (line ∷ lines) a b (inl p) (inr q) = absurd (source_is_kept kinds line q.0 a q.1 p)
-from_source_one kinds (line ∷ lines) a b (inr p) (inl q) = absurd (source_is_kept kinds line p.0 b p.1 q)
-from_source_one kinds (line ∷ lines) a b (inr p) (inr q) =
+from_source_one : (e : Type 0) (kinds : ℕ) (lines : List (List ℕ)) (s t : List ℕ) (a b : ReformatError) → RefusesFromSource e kinds lines s a → RefusesFromSource e kinds lines t b → a ≡ b
+from_source_one e kinds [] s t a b p q = p.2 ∙ sym q.2
+from_source_one e kinds (line ∷ lines) s t a b (inl p) (inl q) = source_one kinds line a b p.0 q.0
+from_source_one e kinds (line ∷ lines) s t a b (inl p) (inr q) = absurd (source_is_kept kinds line q.0 a q.1 p.0)
+from_source_one e kinds (line ∷ lines) s t a b (inr p) (inl q) = absurd (source_is_kept kinds line p.0 b p.1 q.0)
+from_source_one e kinds (line ∷ lines) s t a b (inr p) (inr q) =
     let kept : IsSourceLine kinds line p.0 = p.1 in
-    from_dialect_one p.0 lines a b kept.in_form.separated p.2 (from_dialect_moves q.0 p.0 lines b (same_source kinds line q.0 p.0 q.1 p.1) q.2)
+    from_dialect_one e p.0 lines s t a b kept.in_form.separated p.2 (from_dialect_moves e q.0 p.0 lines t b (same_source kinds line q.0 p.0 q.1 p.1) q.2)
 
 -- line 1
 
@@ -280,42 +280,87 @@ one_count line m n p q = p.count ∙ sym q.count
 
 -- all lines
 
-pub lines_one : (lines : List (List ℕ)) (a b : ReformatError) → RefusesLines lines a → RefusesLines lines b → a ≡ b
-lines_one [] a b p q = p ∙ sym q
-lines_one (line ∷ lines) a b (inl p) (inl q) = kinds_one line a b p q
-lines_one (line ∷ lines) a b (inl p) (inr q) = absurd (kinds_is_kept line q.0 a q.1 p)
-lines_one (line ∷ lines) a b (inr p) (inl q) = absurd (kinds_is_kept line p.0 b p.1 q)
-lines_one (line ∷ lines) a b (inr p) (inr q) =
-    from_source_one p.0 lines a b p.2 (subst (λ (n : ℕ). RefusesFromSource n lines b) (one_count line q.0 p.0 q.1 p.1) q.2)
+pub lines_one : (e : Type 0) (lines : List (List ℕ)) (s t : List ℕ) (a b : ReformatError) → RefusesLines e lines s a → RefusesLines e lines t b → a ≡ b
+lines_one e [] s t a b p q = p.2 ∙ sym q.2
+lines_one e (line ∷ lines) s t a b (inl p) (inl q) = kinds_one line a b p.0 q.0
+lines_one e (line ∷ lines) s t a b (inl p) (inr q) = absurd (kinds_is_kept line q.0 a q.1 p.0)
+lines_one e (line ∷ lines) s t a b (inr p) (inl q) = absurd (kinds_is_kept line p.0 b p.1 q.0)
+lines_one e (line ∷ lines) s t a b (inr p) (inr q) =
+    from_source_one e p.0 lines s t a b p.2 (subst (λ (n : ℕ). RefusesFromSource e n lines t b) (one_count line q.0 p.0 q.1 p.1) q.2)
 
-template_kept : (fourth : List ℕ) (rows : List (List ℕ)) (source template : List FormatElement) (text : List ℕ) (why : ReformatError)
-    → IsSeparated source → IsTemplateLine fourth template → IsTextOf source template rows text → ¬ RefusesFromTemplate source (fourth ∷ rows) why
-template_kept fourth rows source template text why apart d written (inl bad) = template_is_kept fourth template why d bad
-template_kept fourth rows source template text why apart d written (inr more) =
-    rows_written source template 5 rows text why apart written (rows_move source source more.0 template 5 rows why (λ values. refl) (same_template fourth more.0 template more.1 d) more.2)
+-- kept lines are not refused
 
-dialect_kept : (third fourth : List ℕ) (rows : List (List ℕ)) (source template : List FormatElement) (text : List ℕ) (why : ReformatError)
-    → IsSeparated source → IsDialectLine third → IsTemplateLine fourth template → IsTextOf source template rows text → ¬ RefusesFromDialect source (third ∷ fourth ∷ rows) why
-dialect_kept third fourth rows source template text why apart c d written (inl bad) = dialect_is_kept third why c bad
-dialect_kept third fourth rows source template text why apart c d written (inr more) = template_kept fourth rows source template text why apart d written more.1
+template_kept : (e : Type 0) (source : List FormatElement) (lines : List (List ℕ)) (text other : List ℕ) (why : ReformatError) → IsSeparated source
+    → AreKeptFromTemplate source lines text → (e → 1 ≤ length lines) → ¬ RefusesFromTemplate e source lines other why
+template_kept e source [] text other why apart kept long bad = absurd (omega (arith, long bad.0))
+template_kept e source (line ∷ rows) text other why apart kept long (inl bad) = template_is_kept line kept.0 why kept.1 bad.0
+template_kept e source (line ∷ rows) text other why apart kept long (inr more) =
+    rows_written source kept.0 5 rows text other why apart kept.2 (rows_move source source more.0 kept.0 5 rows other why (λ values. refl) (same_template line more.0 kept.0 more.1 kept.1) more.2)
 
-source_kept : (second third fourth : List ℕ) (rows : List (List ℕ)) (kinds : ℕ) (source template : List FormatElement) (text : List ℕ) (why : ReformatError)
-    → IsSourceLine kinds second source → IsDialectLine third → IsTemplateLine fourth template → IsTextOf source template rows text
-    → ¬ RefusesFromSource kinds (second ∷ third ∷ fourth ∷ rows) why
-source_kept second third fourth rows kinds source template text why b c d written (inl bad) = source_is_kept kinds second source why b bad
-source_kept second third fourth rows kinds source template text why b c d written (inr more) =
-    dialect_kept third fourth rows source template text why b.in_form.separated c d written
-    (from_dialect_moves more.0 source (third ∷ fourth ∷ rows) why (same_source kinds second more.0 source more.1 b) more.2)
+dialect_kept : (e : Type 0) (source : List FormatElement) (lines : List (List ℕ)) (text other : List ℕ) (why : ReformatError) → IsSeparated source
+    → AreKeptFromDialect source lines text → (e → 2 ≤ length lines) → ¬ RefusesFromDialect e source lines other why
+dialect_kept e source [] text other why apart kept long bad = absurd (omega (arith, long bad.0))
+dialect_kept e source (line ∷ lines) text other why apart kept long (inl bad) = dialect_is_kept line why kept.0 bad.0
+dialect_kept e source (line ∷ lines) text other why apart kept long (inr more) =
+    template_kept e source lines text other why apart kept.1 (λ end. omega (arith, long end)) more.1
 
-headers_kept : (first second third fourth : List ℕ) (rows : List (List ℕ)) (kinds : ℕ) (source template : List FormatElement) (text : List ℕ) (why : ReformatError)
-    → IsKindsLine first kinds → IsSourceLine kinds second source → IsDialectLine third → IsTemplateLine fourth template → IsTextOf source template rows text
-    → ¬ RefusesLines (first ∷ second ∷ third ∷ fourth ∷ rows) why
-headers_kept first second third fourth rows kinds source template text why a b c d written (inl bad) = kinds_is_kept first kinds why a bad
-headers_kept first second third fourth rows kinds source template text why a b c d written (inr more) =
-    source_kept second third fourth rows kinds source template text why b c d written (subst (λ (n : ℕ). RefusesFromSource n (second ∷ third ∷ fourth ∷ rows) why) (one_count first more.0 kinds more.1 a) more.2)
+source_kept : (e : Type 0) (kinds : ℕ) (lines : List (List ℕ)) (text other : List ℕ) (why : ReformatError)
+    → AreKeptFromSource kinds lines text → (e → 3 ≤ length lines) → ¬ RefusesFromSource e kinds lines other why
+source_kept e kinds [] text other why kept long bad = absurd (omega (arith, long bad.0))
+source_kept e kinds (line ∷ lines) text other why kept long (inl bad) = source_is_kept kinds line kept.0 why kept.1 bad.0
+source_kept e kinds (line ∷ lines) text other why kept long (inr more) =
+    let good : IsSourceLine kinds line kept.0 = kept.1 in
+    dialect_kept e kept.0 lines text other why good.in_form.separated kept.2 (λ end. omega (arith, long end))
+    (from_dialect_moves e more.0 kept.0 lines other why (same_source kinds line more.0 kept.0 more.1 kept.1) more.2)
 
-pub rewritten_is_kept : (input text : List ℕ) (why : ReformatError) → IsRewritten input text → ¬ RefusesLines (lines_of input) why
-rewritten_is_kept input text why written refused =
-    let h : HasHeaders (lines_of input) written.source written.template written.rows = written.headers in
-    headers_kept h.first h.second h.third h.fourth written.rows h.kinds written.source written.template text why h.kinds_line h.source_line h.dialect_line h.template_line written.text_of
-    (subst (λ (lines : List (List ℕ)). RefusesLines lines why) h.lines_are refused)
+pub kept_is_not_refused : (e : Type 0) (lines : List (List ℕ)) (text other : List ℕ) (why : ReformatError) → AreKept lines text → (e → 4 ≤ length lines) → ¬ RefusesLines e lines other why
+kept_is_not_refused e [] text other why kept long bad = absurd (omega (arith, long bad.0))
+kept_is_not_refused e (line ∷ lines) text other why kept long (inl bad) = kinds_is_kept line kept.0 why kept.1 bad.0
+kept_is_not_refused e (line ∷ lines) text other why kept long (inr more) =
+    source_kept e kept.0 lines text other why kept.2 (λ end. omega (arith, long end))
+    (subst (λ (n : ℕ). RefusesFromSource e n lines other why) (one_count line more.0 kept.0 more.1 kept.1) more.2)
+
+-- what is kept with all four headers is rewritten
+
+record Rewrites (lines : List (List ℕ)) (text : List ℕ) : Type 0 where
+  source : List FormatElement
+  template : List FormatElement
+  rows : List (List ℕ)
+  headers : HasHeaders lines source template rows
+  text_of : IsTextOf source template rows text
+
+rewrites : (lines : List (List ℕ)) (text : List ℕ) → AreKept lines text → 4 ≤ length lines → Rewrites lines text
+rewrites [] text kept long = absurd (omega (arith, long))
+rewrites (a ∷ []) text kept long = absurd (omega (arith, long))
+rewrites (a ∷ b ∷ []) text kept long = absurd (omega (arith, long))
+rewrites (a ∷ b ∷ c ∷ []) text kept long = absurd (omega (arith, long))
+rewrites (a ∷ b ∷ c ∷ d ∷ rows) text kept long = record {
+  source = kept.2.0;
+  template = kept.2.2.1.0;
+  rows = rows;
+  headers = record {
+    first = a;
+    second = b;
+    third = c;
+    fourth = d;
+    kinds = kept.0;
+    lines_are = refl;
+    kinds_line = kept.1;
+    source_line = kept.2.1;
+    dialect_line = kept.2.2.0;
+    template_line = kept.2.2.1.1;
+  };
+  text_of = kept.2.2.1.2;
+}
+
+pub kept_is_rewritten : (input text : List ℕ) → AreKept (lines_of input) text → 4 ≤ length (lines_of input) → IsRewritten input text
+kept_is_rewritten input text kept long =
+    let all : Rewrites (lines_of input) text = rewrites (lines_of input) text kept long in
+    record { source = all.source; template = all.template; rows = all.rows; headers = all.headers; text_of = all.text_of }
+
+pub rewritten_is_kept : (input text : List ℕ) → IsRewritten input text → AreKept (lines_of input) text × (4 ≤ length (lines_of input))
+rewritten_is_kept input text written =
+    let h : HasHeaders (lines_of input) written.source written.template written.rows = written.headers in (
+      subst (λ (lines : List (List ℕ)). AreKept lines text) (sym h.lines_are) (h.kinds, h.kinds_line, (written.source, h.source_line, (h.dialect_line, (written.template, h.template_line, written.text_of)))),
+      omega (arith, ap length h.lines_are),
+    )

@@ -1,4 +1,5 @@
 pub mod Lines
+pub mod Reached
 pub mod Kinds
 pub mod Format
 pub mod Headers
@@ -9,3 +10,8 @@ pub mod Status
 pub mod Message
 pub mod Reformats
 pub mod Run
+pub mod Pieces
+pub mod Digits
+pub mod ElementRead
+pub mod NextLine
+pub mod Job

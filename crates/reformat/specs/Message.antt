@@ -4,7 +4,7 @@ use Rattle.reformat.specs.declared.error.RenderFault.{RenderFault}
 use Rattle.reformat.specs.declared.error.RenderFault.TheVariants.{WrongType, TooManyArgs, NotEnoughArgs}
 use Rattle.reformat.specs.declared.error.TemplateFault.TheVariants.{Printf as PrintfTemplate}
 use Rattle.reformat.specs.declared.error.ReformatError.{ReformatError}
-use Rattle.reformat.specs.declared.error.ReformatError.TheVariants.{Header, SourceFormat, Template, Render, NotARow, TooLong, ReadFault, WriteFault, NoMemory, NotBuilt}
+use Rattle.reformat.specs.declared.error.ReformatError.TheVariants.{Header, SourceFormat, Template, Render, NotARow, TooLong, ReadFault, WriteFault, NoMemory, NotBuilt, NotUtf8}
 
 -- the line of a refusal that has one, and what is wrong with it
 abbrev pub line_message : ℕ → List ℕ → List ℕ
@@ -24,6 +24,7 @@ message_of (Template PrintfTemplate) = line_message 4 (codes "not a printf templ
 message_of (Render line fault) = line_message line (fault_message fault)
 message_of (NotARow line) = line_message line (codes "not a row")
 message_of (NotBuilt line) = line_message line (codes "not built")
+message_of (NotUtf8 line) = line_message line (codes "not UTF-8")
 message_of TooLong = codes "input past the limit\n"
 message_of ReadFault = codes "read fault\n"
 message_of WriteFault = codes "write fault\n"
@@ -46,6 +47,7 @@ line_of (Template fault) = 4
 line_of (Render line fault) = line
 line_of (NotARow line) = line
 line_of (NotBuilt line) = line
+line_of (NotUtf8 line) = line
 line_of TooLong = 0
 line_of ReadFault = 0
 line_of WriteFault = 0

@@ -12,6 +12,10 @@ use Rattle.reformat.specs.Reformats.{Reformats}
 abbrev pub rewrite_words : List (List ℕ)
 rewrite_words = codes "rewrite" ∷ []
 
+-- how many bytes of input a command takes at most
+abbrev pub input_limit : ℕ
+input_limit = 268435456
+
 -- the text was told whole, and no fault was counted, or a front of it was told, and a fault was counted
 abbrev pub Tells : Option (List ℕ) → Option (List ℕ) → ℕ → ℕ → List ℕ → Type 0
 Tells old new faults faults' text = (Appends old new text × (faults' ≡ faults)) ⊎ (AppendsFront old new text × Rises faults faults')

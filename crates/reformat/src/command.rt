@@ -1,6 +1,6 @@
 // The commands of the program.
 ghost use Rattle.std.specs.Prelude.{◌≡◌, ◌∷◌, [], ℕ, Result, map, string_bytes, IsTrue, ◌↔◌};
-ghost use Rattle.reformat.specs.Run.{RunsRewrite, Tells, WritesAll, rewrite_words};
+ghost use Rattle.reformat.specs.Run.{RunsRewrite, Tells, WritesAll, rewrite_words, input_limit};
 ghost use Rattle.reformat.specs.Message.{usage};
 ghost use Rattle.reformat.specs.Status.{result_status};
 ghost use Rattle.reformat.specs.declared.error.ReformatError.{ReformatError};
@@ -31,7 +31,7 @@ pub fn run<S: Source, K: Sink, E: Sink>(
 
     // Every status of `rewrite` is that of a result of the job, and its message is told.
     ensures job { map string_bytes words.now ≡ rewrite_words
-        → RunsRewrite S.rest S.given S.faults K.held K.faults E.held E.faults input.old input.new output.old output.new errors.old errors.new LIMIT result }
+        → RunsRewrite S.rest S.given S.faults K.held K.faults E.held E.faults input.old input.new output.old output.new errors.old errors.new input_limit result }
 
     // Other words are no command: the usage line is told, and nothing is read or written.
     ensures usage { ¬ (map string_bytes words.now ≡ rewrite_words)

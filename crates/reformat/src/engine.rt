@@ -1,120 +1,162 @@
 // The rewriting job.
-ghost use Rattle.std.specs.Prelude.{◌≡◌, ◌⊎◌, ◌+◌, length, string_bytes, IfOk, IfErr};
-ghost use Rattle.reformat.specs.declared.error.RenderFault.{RenderFault};
-ghost use Rattle.reformat.specs.Fault.{IsFaultOf};
-ghost use Rattle.reformat.specs.Lines.{lines_of};
+ghost use Rattle.std.specs.Prelude.{◌≡◌, [], ◌-◌, ◌+◌, ◌++◌, false};
+ghost use Rattle.whiteread.specs.ReaderState.{reader_source, reader_limit, reader_past, reader_waiting, reader_line, reader_taken};
 ghost use Rattle.reformat.specs.Format.{IsSeparated};
-ghost use Rattle.reformat.specs.Rewrite.{IsTextOf, IsRewritten, IsRewrittenAs};
-ghost use Rattle.reformat.specs.Refusal.{RefusesRow, RefusesRows, RefusesLines};
 ghost use Rattle.reformat.specs.Reformats.{Reformats};
+ghost use Rattle.reformat.specs.NextLine.{IsReady};
+ghost use Rattle.reformat.specs.Job.{Job, kinds_next, source_next, dialect_next, template_next, rows_next, view_of, ends_of, RowStep};
 
 use crate::ReformatError;
-use crate::error::fault_of;
+use crate::batch::{send, send_if_due};
 use crate::headers::{read_dialect, read_kinds, read_source, read_template};
-use crate::input::read_all;
-use crate::lines::{is_utf8, next_line};
-use crate::row::read_row;
-use edge_io::{Sink, Source, write_all};
+use crate::reading::{next_line, text_of};
+use crate::row::rewrite_row;
+use edge_io::{Sink, Source};
 use sprintf::parser::FormatElement;
-use sprintf::{PrintfError, vsprintfp};
 use std::alloc::Global;
+use whiteread::Reader;
 
-/// What is written for the input, and how many rows it has.
-#[derive(Drop)]
-struct Rewriting {
-    text: Vec<u8>,
-    rows: u64,
-}
-
-/// The line that the template prints of the row on the line of this number.
-fn rewrite_row(
+/// Reads the next row, and keeps the line that it is rewritten as; or answers false where no row is left.
+fn next_row<B: Source>(
     alloc: Global,
     source: &[FormatElement<'_>],
     template: &[FormatElement<'_>],
-    number: u64,
-    row: &[u8],
-) -> Result<String, ReformatError>
-    requires { IsSeparated source.now }
-    ensures ok { IfOk result (λ line. IsRewrittenAs source.now template.now row.now (string_bytes line)) }
-    ensures err { IfErr result (λ why. RefusesRow source.now template.now number row.now why ⊎ (why ≡ ReformatError.NoMemory)) }
+    reader: &mut Reader<B>,
+    before: u64,
+    numbers: &mut Vec<u64>,
+    batch: &mut Vec<u8>,
+) -> Result<bool, ReformatError>
+    requires apart { IsSeparated source.now }
+    requires ready { IsReady B.rest B.given before reader.old }
+    ensures step { RowStep B.rest B.given B.faults source.now template.now before reader.old reader.new batch.old.items batch.new.items result }
+    ensures same_reference { B.reference (reader_source reader.new) ≡ B.reference (reader_source reader.old) }
 {
-    if !is_utf8(row) {
-        return Err(ReformatError::NotBuilt { line: number });
+    if !next_line(reader, before)? {
+        return Ok(false);
     }
-    let Some(numbers) = read_row(alloc, source, row)? else {
-        return Err(ReformatError::NotARow { line: number });
-    };
-    match vsprintfp(alloc, template, &numbers) {
-        Ok(line) => Ok(line),
-        Err(cause) => Err(refusal_of(&cause, number)),
-    }
-}
-
-/// The refusal of a line whose numbers the template refuses; what numbers never meet counts as want of memory.
-fn refusal_of(cause: &PrintfError, number: u64) -> ReformatError
-    ensures { ((fault : RenderFault) × IsFaultOf cause.now fault × (result ≡ ReformatError.Render number fault)) ⊎ (result ≡ ReformatError.NoMemory) }
-{
-    match fault_of(cause) {
-        Some(fault) => ReformatError::Render {
-            line: number,
-            fault,
-        },
-        None => ReformatError::NoMemory,
-    }
+    let row = text_of(reader.current_line());
+    rewrite_row(alloc, source, template, before + 1, row, numbers, batch)?;
+    Ok(true)
 }
 
 /// Rewrites the rows, the first of which stands on line 5.
-fn rewrite_rows(
+fn rewrite_rows<B: Source, K: Sink>(
     alloc: Global,
     source: &[FormatElement<'_>],
     template: &[FormatElement<'_>],
-    rows: &[u8],
-) -> Result<Rewriting, ReformatError>
-    requires { IsSeparated source.now }
-    ensures text { IfOk result (λ done. IsTextOf source.now template.now (lines_of rows.now) done.text.items) }
-    ensures count { IfOk result (λ done. done.rows ≡ length (lines_of rows.now)) }
-    ensures err { IfErr result (λ why. RefusesRows source.now template.now 5 (lines_of rows.now) why ⊎ (why ≡ ReformatError.NoMemory)) }
+    reader: &mut Reader<B>,
+    output: &mut K,
+) -> Result<u64, ReformatError>
+    requires apart { IsSeparated source.now }
+    requires ready { IsReady B.rest B.given 4 reader.old }
+    ensures job { Job (ends_of B.rest B.given B.faults K.held K.faults) (rows_next source.now template.now 5) [] (view_of reader.old) (reader_source reader.new) output.old output.new result }
+    ensures same_reference { B.reference (reader_source reader.new) ≡ B.reference (reader_source reader.old) }
 {
-    let mut text = Vec::new(alloc);
-    let mut count: u64 = 0;
-    let mut rest = rows;
-    'rows: while let Some((row, after)) = next_line(rest) {
-        let line = rewrite_row(alloc, source, template, count + 5, row)?;
-        text.extend_from_slice(line.as_bytes())?;
-        text.push(b'\n')?;
-        count += 1;
-        rest = after;
+    let mut numbers = Vec::new(alloc);
+    let mut batch = Vec::new(alloc);
+    let mut lines: u64 = 4;
+    'rows: loop {
+        send_if_due(reader, output, &mut batch)?;
+        match next_row(
+            alloc,
+            source,
+            template,
+            reader,
+            lines,
+            &mut numbers,
+            &mut batch,
+        ) {
+            Ok(true) => lines += 1,
+            Ok(false) => return Ok(lines - 4),
+            Err(why) => {
+                if why == ReformatError::NoMemory {
+                    return Err(why);
+                }
+                send(output, &mut batch)?;
+                return Err(why);
+            }
+        }
     }
-    Ok(Rewriting { text, rows: count })
 }
 
-/// Judges the lines of the input in order.
-fn rewrite_input(alloc: Global, input: &[u8]) -> Result<Rewriting, ReformatError>
-    ensures text { IfOk result (λ done. IsRewritten input.now done.text.items) }
-    ensures count { IfOk result (λ done. length (lines_of input.now) ≡ done.rows + 4) }
-    ensures err { IfErr result (λ why. RefusesLines (lines_of input.now) why ⊎ (why ≡ ReformatError.NoMemory)) }
+/// Reads line 4, and rewrites the rows after it.
+fn from_template<B: Source, K: Sink>(
+    alloc: Global,
+    source: &[FormatElement<'_>],
+    reader: &mut Reader<B>,
+    output: &mut K,
+) -> Result<u64, ReformatError>
+    requires apart { IsSeparated source.now }
+    requires ready { IsReady B.rest B.given 3 reader.old }
+    ensures job { Job (ends_of B.rest B.given B.faults K.held K.faults) (template_next source.now) [] (view_of reader.old) (reader_source reader.new) output.old output.new result }
+    ensures same_reference { B.reference (reader_source reader.new) ≡ B.reference (reader_source reader.old) }
 {
-    let Some((first, rest)) = next_line(input) else {
-        return Err(ReformatError::Header { line: 1 });
-    };
-    let kinds = read_kinds(first)?;
-    let Some((second, rest)) = next_line(rest) else {
-        return Err(ReformatError::Header { line: 2 });
-    };
-    let source = read_source(alloc, kinds, second)?;
-    let Some((third, rest)) = next_line(rest) else {
-        return Err(ReformatError::Header { line: 3 });
-    };
-    read_dialect(third)?;
-    let Some((fourth, rest)) = next_line(rest) else {
+    if !next_line(reader, 3)? {
         return Err(ReformatError::Header { line: 4 });
-    };
-    let template = read_template(alloc, fourth)?;
-    rewrite_rows(alloc, &source, &template, rest)
+    }
+    let line = text_of(reader.current_line()).to_string(alloc)?;
+    let template = read_template(alloc, &line)?;
+    rewrite_rows(alloc, source, &template, reader, output)
+}
+
+/// Reads line 3, and goes on after it.
+fn from_dialect<B: Source, K: Sink>(
+    alloc: Global,
+    source: &[FormatElement<'_>],
+    reader: &mut Reader<B>,
+    output: &mut K,
+) -> Result<u64, ReformatError>
+    requires apart { IsSeparated source.now }
+    requires ready { IsReady B.rest B.given 2 reader.old }
+    ensures job { Job (ends_of B.rest B.given B.faults K.held K.faults) (dialect_next source.now) [] (view_of reader.old) (reader_source reader.new) output.old output.new result }
+    ensures same_reference { B.reference (reader_source reader.new) ≡ B.reference (reader_source reader.old) }
+{
+    if !next_line(reader, 2)? {
+        return Err(ReformatError::Header { line: 3 });
+    }
+    read_dialect(text_of(reader.current_line()))?;
+    from_template(alloc, source, reader, output)
+}
+
+/// Reads line 2, and goes on after it.
+fn from_source<B: Source, K: Sink>(
+    alloc: Global,
+    kinds: usize,
+    reader: &mut Reader<B>,
+    output: &mut K,
+) -> Result<u64, ReformatError>
+    requires ready { IsReady B.rest B.given 1 reader.old }
+    ensures job { Job (ends_of B.rest B.given B.faults K.held K.faults) (source_next kinds) [] (view_of reader.old) (reader_source reader.new) output.old output.new result }
+    ensures same_reference { B.reference (reader_source reader.new) ≡ B.reference (reader_source reader.old) }
+{
+    if !next_line(reader, 1)? {
+        return Err(ReformatError::Header { line: 2 });
+    }
+    let line = text_of(reader.current_line()).to_string(alloc)?;
+    let source = read_source(alloc, kinds, &line)?;
+    from_dialect(alloc, &source, reader, output)
+}
+
+/// Reads line 1, and goes on after it.
+fn from_kinds<B: Source, K: Sink>(
+    alloc: Global,
+    reader: &mut Reader<B>,
+    output: &mut K,
+) -> Result<u64, ReformatError>
+    requires ready { IsReady B.rest B.given 0 reader.old }
+    ensures job { Job (ends_of B.rest B.given B.faults K.held K.faults) kinds_next [] (view_of reader.old) (reader_source reader.new) output.old output.new result }
+    ensures same_reference { B.reference (reader_source reader.new) ≡ B.reference (reader_source reader.old) }
+{
+    if !next_line(reader, 0)? {
+        return Err(ReformatError::Header { line: 1 });
+    }
+    let kinds = read_kinds(text_of(reader.current_line()))?;
+    from_source(alloc, kinds, reader, output)
 }
 
 /// Rewrites the rows of the input, and answers how many there are. The first four lines say how: kinds, the format
-/// of the rows, a dialect, a template. At most `limit` bytes are taken.
+/// of the rows, a dialect, a template. At most `limit` bytes are taken, and one more to see whether there is one. The
+/// text of a row is written before another read.
 pub fn reformat<S: Source, K: Sink>(
     alloc: Global,
     input: &mut S,
@@ -123,10 +165,8 @@ pub fn reformat<S: Source, K: Sink>(
 ) -> Result<u64, ReformatError>
     ensures { Reformats S.rest S.given S.faults K.held K.faults input.old input.new output.old output.new limit result }
 {
-    let bytes = read_all(alloc, input, limit)?;
-    let done = rewrite_input(alloc, &bytes)?;
-    match write_all(output, &done.text) {
-        Ok(()) => Ok(done.rows),
-        Err(_) => Err(ReformatError::WriteFault),
-    }
+    let mut reader = Reader::new(alloc, input, limit);
+    let answer = from_kinds(alloc, &mut reader, output);
+    let _ = reader.into_inner();
+    answer
 }

@@ -37,6 +37,8 @@ pub enum ReformatError {
     NotARow { line: u64 },
     /// The line has its list, and the template has no text for it.
     Render { line: u64, fault: RenderFault },
+    /// The line isn't UTF-8.
+    NotUtf8 { line: u64 },
     /// More bytes came than the limit allows.
     TooLong,
     /// A read failed.

@@ -1,4 +1,4 @@
-// The four header lines.
+// The four header lines, each without its line feed.
 ghost use Rattle.std.specs.Prelude.{◌≡◌, ◌⊎◌, IfOk, IfErr, MatchOption};
 ghost use Rattle.sprintf.specs.Grammar.{IsFormat, IsNoFormat};
 ghost use Rattle.reformat.specs.Headers.{IsKindsLine, IsSourceLine, IsDialectLine, IsTemplateLine};
@@ -6,24 +6,20 @@ ghost use Rattle.reformat.specs.Refusal.{RefusesKinds, RefusesSource, RefusesDia
 
 use crate::form::is_in_form;
 use crate::kind::{Dialect, all_name_kinds, count_u64, dialect_of};
-use crate::lines::is_utf8;
 use crate::{ReformatError, TemplateFault};
 use sprintf::PrintfError;
 use sprintf::parser::{FormatElement, parse_format_string};
 use std::alloc::Global;
 
 /// Reads line 1: how many kinds it names.
-pub(crate) fn read_kinds(line: &[u8]) -> Result<usize, ReformatError>
+pub(crate) fn read_kinds(line: &str) -> Result<usize, ReformatError>
     ensures ok { IfOk result (IsKindsLine line.now) }
     ensures err { IfErr result (RefusesKinds line.now) }
 {
-    if !is_utf8(line) {
-        return Err(ReformatError::NotBuilt { line: 1 });
-    }
-    if !all_name_kinds(line) {
+    if !all_name_kinds(line.as_bytes()) {
         return Err(ReformatError::Header { line: 1 });
     }
-    match count_u64(line) {
+    match count_u64(line.as_bytes()) {
         Some(count) => Ok(count),
         None => Err(ReformatError::NotBuilt { line: 1 }),
     }
@@ -45,15 +41,12 @@ fn elements_of(alloc: Global, text: &str) -> Result<Option<Vec<FormatElement<'_>
 pub(crate) fn read_source(
     alloc: Global,
     kinds: usize,
-    line: &[u8],
+    line: &str,
 ) -> Result<Vec<FormatElement<'_>>, ReformatError>
     ensures ok { IfOk result (λ source. IsSourceLine kinds line.now source.items) }
     ensures err { IfErr result (λ why. RefusesSource kinds line.now why ⊎ (why ≡ ReformatError.NoMemory)) }
 {
-    let Ok(text) = std::str::from_utf8(line) else {
-        return Err(ReformatError::NotBuilt { line: 2 });
-    };
-    let Some(source) = elements_of(alloc, text)? else {
+    let Some(source) = elements_of(alloc, line)? else {
         return Err(ReformatError::SourceFormat);
     };
     if is_in_form(kinds, &source) {
@@ -64,14 +57,11 @@ pub(crate) fn read_source(
 }
 
 /// Reads line 3, which names the dialect of the template.
-pub(crate) fn read_dialect(line: &[u8]) -> Result<(), ReformatError>
+pub(crate) fn read_dialect(line: &str) -> Result<(), ReformatError>
     ensures ok { IfOk result (λ _. IsDialectLine line.now) }
     ensures err { IfErr result (RefusesDialect line.now) }
 {
-    if !is_utf8(line) {
-        return Err(ReformatError::NotBuilt { line: 3 });
-    }
-    match dialect_of(line) {
+    match dialect_of(line.as_bytes()) {
         Some(Dialect::Printf) => Ok(()),
         Some(Dialect::Strfmt) => Err(ReformatError::NotBuilt { line: 3 }),
         Some(Dialect::Formatx) => Err(ReformatError::NotBuilt { line: 3 }),
@@ -82,15 +72,12 @@ pub(crate) fn read_dialect(line: &[u8]) -> Result<(), ReformatError>
 /// Reads line 4: the elements of the template.
 pub(crate) fn read_template(
     alloc: Global,
-    line: &[u8],
+    line: &str,
 ) -> Result<Vec<FormatElement<'_>>, ReformatError>
     ensures ok { IfOk result (λ template. IsTemplateLine line.now template.items) }
     ensures err { IfErr result (λ why. RefusesTemplate line.now why ⊎ (why ≡ ReformatError.NoMemory)) }
 {
-    let Ok(text) = std::str::from_utf8(line) else {
-        return Err(ReformatError::NotBuilt { line: 4 });
-    };
-    match elements_of(alloc, text)? {
+    match elements_of(alloc, line)? {
         Some(template) => Ok(template),
         None => Err(ReformatError::Template(TemplateFault::Printf)),
     }

@@ -4,7 +4,7 @@ ghost use Rattle.reformat.specs.declared.kind.Dialect.{Dialect};
 ghost use Rattle.reformat.specs.Lines.{words_of};
 ghost use Rattle.reformat.specs.Kinds.{kind_word, dialect_word, NamesKind, NamesU64, AreDialect};
 
-use crate::lines::next_word;
+use crate::words::next_word;
 
 /// What a field of a row holds: a number of a type, or a word.
 #[derive(Clone, Copy, Debug, PartialEq, Eq)]

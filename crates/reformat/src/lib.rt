@@ -1,18 +1,19 @@
 //! Rewrites lines from one format into another, from bytes to bytes.
 #![tactic(auto)]
 
+mod batch;
 mod command;
 mod engine;
 mod error;
 mod form;
 mod headers;
-mod input;
 mod kind;
-mod lines;
 mod message;
+mod reading;
 mod row;
 #[cfg(test)]
 mod tests;
+mod words;
 
 pub use command::run;
 pub use engine::reformat;

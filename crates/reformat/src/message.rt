@@ -65,6 +65,7 @@ pub(crate) fn message_of(why: ReformatError) -> ArrayVec<u8, ROOM>
         ReformatError::Render { line, fault } => of_line(line, fault_message(fault)),
         ReformatError::NotARow { line } => of_line(line, b"not a row"),
         ReformatError::NotBuilt { line } => of_line(line, b"not built"),
+        ReformatError::NotUtf8 { line } => of_line(line, b"not UTF-8"),
         ReformatError::TooLong => plain(b"input past the limit\n"),
         ReformatError::ReadFault => plain(b"read fault\n"),
         ReformatError::WriteFault => plain(b"write fault\n"),

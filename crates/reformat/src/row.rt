@@ -1,18 +1,28 @@
 // Rows read and printed.
-ghost use Rattle.std.specs.Prelude.{◌≡◌, ◌<◌, ◌^◌, ◌++◌, ℕ, List, All, IfOk, IfErr, IfSome, IfNone, MatchOption};
+ghost use Rattle.std.specs.Prelude.{◌≡◌, ◌⊎◌, ◌<◌, ◌^◌, ◌++◌, ◌∷◌, [], ℕ, List, IfOk, IfErr, IfSome, IfNone, IsTrue, ◌↔◌, ◌≢◌, false, string_bytes, OnOk, length, slice_index};
 ghost use Rattle.std.specs.Fmt.{decimal};
+ghost use Rattle.reformat.specs.declared.error.RenderFault.{RenderFault};
+ghost use Rattle.reformat.specs.Fault.{IsFaultOf};
 ghost use Rattle.reformat.specs.Format.{BeginsApart, IsRow, IsSeparated};
+ghost use Rattle.reformat.specs.Rewrite.{IsRewrittenAs};
+ghost use Rattle.reformat.specs.Refusal.{RefusesRow};
+ghost use Rattle.reformat.specs.Digits.{ReadsDigits};
+ghost use Rattle.reformat.specs.ElementRead.{ReadsElement, AppendsRow};
 
 use crate::ReformatError;
+use crate::error::fault_of;
 use crate::form::is_percent;
 use sprintf::parser::FormatElement;
 use sprintf::{PrintfError, vsprintfp};
 use std::alloc::{AllocError, Global};
 
-// The number that the digits in front are, and the text after them.
-fn first_number(text: &[u8]) -> (u64, &[u8])
-    ensures exact { (n : ℕ) (rest : List ℕ) → n < 2 ^ 64 → BeginsApart rest → text.now ≡ decimal n ++ rest
-        → (result.0 ≡ n) × (result.1.now ≡ rest) }
+/// The digits of the greatest number.
+const GREATEST: &[u8] = b"18446744073709551615";
+
+// The number that the digits in front are, which stops at the greatest, and the text after them.
+fn digits_in_front(text: &[u8]) -> (u64, &[u8])
+    ensures read { ReadsDigits text.now result.1.now result.0 }
+    ensures apart { BeginsApart result.1.now }
 {
     let mut number = 0u64;
     let mut rest = text;
@@ -25,61 +35,124 @@ fn first_number(text: &[u8]) -> (u64, &[u8])
     (number, rest)
 }
 
-// The numbers in the places of the fields.
-fn read_numbers(
-    alloc: Global,
-    elements: &[FormatElement<'_>],
-    line: &[u8],
-) -> Result<Option<Vec<u64>>, AllocError>
-    ensures fit { IfOk result (λ found. IfSome found (λ numbers. All (λ number. number < 2 ^ 64) numbers.items)) }
-    ensures only { IsSeparated elements.now → IfOk result (λ found. (numbers : List ℕ) → IsRow elements.now line.now numbers
-        → MatchOption found ⊥ (λ v. v.items ≡ numbers)) }
+// Whether digits are written as numbers are printed: at least one, and no zero in front of others.
+fn is_numeral(digits: &[u8]) -> bool
+    ensures { IsTrue result ↔ ((0 < length digits.now) × (slice_index digits.now 0 ≡ 48 → length digits.now ≡ 1)) }
 {
-    let mut numbers = Vec::new(alloc);
-    let mut rest = line;
-    'reading: for element in elements {
-        match element {
-            FormatElement::Verbatim(text) => {
-                if rest.len() < text.len() {
-                    return Ok(None);
-                }
-                rest = &rest[text.len()..];
-            }
-            FormatElement::Format(field) => {
-                if is_percent(field) {
-                    let [_, after @ ..] = rest else {
-                        return Ok(None);
-                    };
-                    rest = after;
-                } else {
-                    let (number, after) = first_number(rest);
-                    numbers.push(number)?;
-                    rest = after;
-                }
-            }
-        }
+    match digits {
+        [] => false,
+        [_] => true,
+        [first, ..] => *first != b'0',
     }
-    Ok(Some(numbers))
 }
 
-/// The numbers that a line is the text of, where it is one.
-pub(crate) fn read_row(
-    alloc: Global,
+// Whether the digits are those of a number past the greatest, at which the number stopped.
+fn is_past(number: u64, digits: &[u8]) -> bool
+    ensures past { IsTrue result → (number ≡ u64.MAX) × (digits.now ≢ GREATEST.now) }
+    ensures within { result ≡ false → number ≡ u64.MAX → digits.now ≡ GREATEST.now }
+{
+    number == u64::MAX && digits != GREATEST
+}
+
+// The number in front, written as numbers are printed, and the text after it.
+fn first_number(text: &[u8]) -> Option<(u64, &[u8])>
+    ensures number { IfSome result (λ found. text.now ≡ decimal found.0 ++ found.1.now) }
+    ensures apart { IfSome result (λ found. BeginsApart found.1.now) }
+    ensures small { IfSome result (λ found. found.0 < 2 ^ 64) }
+    ensures none { IfNone result ((n : ℕ) (rest : List ℕ) → n < 2 ^ 64 → BeginsApart rest → ¬ (text.now ≡ decimal n ++ rest)) }
+{
+    let (number, rest) = digits_in_front(text);
+    let digits = &text[..text.len() - rest.len()];
+    if !is_numeral(digits) {
+        return None;
+    }
+    if is_past(number, digits) {
+        return None;
+    }
+    Some((number, rest))
+}
+
+// The text after the element's, where that stands in front; a field's number is put after the others.
+fn read_element<'a>(
+    element: &FormatElement<'_>,
+    text: &'a [u8],
+    numbers: &mut Vec<u64>,
+) -> Result<Option<&'a [u8]>, AllocError>
+    ensures { IfOk result (ReadsElement element.now text.now numbers.old.items numbers.new.items) }
+{
+    match element {
+        FormatElement::Verbatim(literal) => Ok(text.strip_prefix(literal.as_bytes())),
+        FormatElement::Format(field) => {
+            if is_percent(field) {
+                return Ok(text.strip_prefix(b"%"));
+            }
+            let Some((number, rest)) = first_number(text) else {
+                return Ok(None);
+            };
+            numbers.push(number)?;
+            Ok(Some(rest))
+        }
+    }
+}
+
+// Whether the line is the text of numbers; then these are they.
+fn read_row(
     elements: &[FormatElement<'_>],
     line: &[u8],
-) -> Result<Option<Vec<u64>>, ReformatError>
+    numbers: &mut Vec<u64>,
+) -> Result<bool, AllocError>
     requires { IsSeparated elements.now }
-    ensures row { IfOk result (λ found. IfSome found (λ numbers. IsRow elements.now line.now numbers.items)) }
-    ensures none { IfOk result (λ found. IfNone found ((numbers : List ℕ) → ¬ IsRow elements.now line.now numbers)) }
-    ensures memory { IfErr result (λ why. why ≡ ReformatError.NoMemory) }
+    ensures row { IfOk result (λ found. IsTrue found → IsRow elements.now line.now numbers.new.items) }
+    ensures none { IfOk result (λ found. found ≡ false → (others : List ℕ) → ¬ IsRow elements.now line.now others) }
 {
-    let Some(numbers) = read_numbers(alloc, elements, line)? else {
-        return Ok(None);
-    };
-    match vsprintfp(alloc, elements, &numbers) {
-        Ok(text) if text.as_bytes() == line => Ok(Some(numbers)),
-        Ok(_) => Ok(None),
-        Err(PrintfError::NoMemory) => Err(ReformatError::NoMemory),
-        Err(_) => Ok(None),
+    numbers.clear();
+    let mut rest = line;
+    'elements: for element in elements {
+        let Some(after) = read_element(element, rest, numbers)? else {
+            return Ok(false);
+        };
+        rest = after;
+    }
+    Ok(rest.is_empty())
+}
+
+/// The refusal of a line whose numbers the template refuses; what numbers never meet counts as want of memory.
+fn refusal_of(cause: &PrintfError, number: u64) -> ReformatError
+    ensures { ((fault : RenderFault) × IsFaultOf cause.now fault × (result ≡ ReformatError.Render number fault)) ⊎ (result ≡ ReformatError.NoMemory) }
+{
+    match fault_of(cause) {
+        Some(fault) => ReformatError::Render {
+            line: number,
+            fault,
+        },
+        None => ReformatError::NoMemory,
+    }
+}
+
+/// Puts the line that the row is rewritten as, and a line feed, after the batch. The row stands on the line of this
+/// number. The room of `numbers` is used again.
+pub(crate) fn rewrite_row(
+    alloc: Global,
+    source: &[FormatElement<'_>],
+    template: &[FormatElement<'_>],
+    number: u64,
+    row: &str,
+    numbers: &mut Vec<u64>,
+    batch: &mut Vec<u8>,
+) -> Result<(), ReformatError>
+    requires { IsSeparated source.now }
+    ensures ok { OnOk result (AppendsRow source.now template.now row.now batch.old.items batch.new.items) }
+    ensures err { IfErr result (λ why. (RefusesRow source.now template.now number row.now why × (batch.new.items ≡ batch.old.items)) ⊎ (why ≡ ReformatError.NoMemory)) }
+{
+    if !read_row(source, row.as_bytes(), numbers)? {
+        return Err(ReformatError::NotARow { line: number });
+    }
+    match vsprintfp(alloc, template, numbers) {
+        Ok(line) => {
+            batch.extend_from_slice(line.as_bytes())?;
+            batch.push(b'\n')?;
+            Ok(())
+        }
+        Err(cause) => Err(refusal_of(&cause, number)),
     }
 }
