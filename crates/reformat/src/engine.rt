@@ -10,7 +10,7 @@ use crate::ReformatError;
 use crate::batch::{send, send_if_due};
 use crate::headers::{read_dialect, read_kinds, read_source, read_template};
 use crate::reading::{next_line, text_of};
-use crate::row::rewrite_row;
+use crate::row::{Room, rewrite_row};
 use edge_io::{Sink, Source};
 use sprintf::parser::FormatElement;
 use std::alloc::Global;
@@ -23,7 +23,7 @@ fn next_row<B: Source>(
     template: &[FormatElement<'_>],
     reader: &mut Reader<B>,
     before: u64,
-    numbers: &mut Vec<u64>,
+    room: &mut Room,
     batch: &mut Vec<u8>,
 ) -> Result<bool, ReformatError>
     requires apart { IsSeparated source.now }
@@ -35,7 +35,7 @@ fn next_row<B: Source>(
         return Ok(false);
     }
     let row = text_of(reader.current_line());
-    rewrite_row(alloc, source, template, before + 1, row, numbers, batch)?;
+    rewrite_row(alloc, source, template, before + 1, row, room, batch)?;
     Ok(true)
 }
 
@@ -52,7 +52,7 @@ fn rewrite_rows<B: Source, K: Sink>(
     ensures job { Job (ends_of B.rest B.given B.faults K.held K.faults) (rows_next source.now template.now 5) [] (view_of reader.old) (reader_source reader.new) output.old output.new result }
     ensures same_reference { B.reference (reader_source reader.new) ≡ B.reference (reader_source reader.old) }
 {
-    let mut numbers = Vec::new(alloc);
+    let mut room = Room::new(alloc);
     let mut batch = Vec::new(alloc);
     let mut lines: u64 = 4;
     'rows: loop {
@@ -63,7 +63,7 @@ fn rewrite_rows<B: Source, K: Sink>(
             template,
             reader,
             lines,
-            &mut numbers,
+            &mut room,
             &mut batch,
         ) {
             Ok(true) => lines += 1,

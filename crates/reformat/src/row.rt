@@ -13,7 +13,7 @@ use crate::ReformatError;
 use crate::error::fault_of;
 use crate::form::is_percent;
 use sprintf::parser::FormatElement;
-use sprintf::{PrintfError, vsprintfp};
+use sprintf::{PrintfError, vsprintfp_into};
 use std::alloc::{AllocError, Global};
 
 /// The digits of the greatest number.
@@ -129,27 +129,44 @@ fn refusal_of(cause: &PrintfError, number: u64) -> ReformatError
     }
 }
 
+/// Room that is used again from row to row: for the numbers of a row, and for the text that the template prints of them.
+#[derive(Drop)]
+pub(crate) struct Room {
+    numbers: Vec<u64>,
+    line: String,
+}
+
+impl Room {
+    /// Nothing is kept yet. It takes no memory.
+    pub(crate) fn new(alloc: Global) -> Room {
+        Room {
+            numbers: Vec::new(alloc),
+            line: String::new(alloc),
+        }
+    }
+}
+
 /// Puts the line that the row is rewritten as, and a line feed, after the batch. The row stands on the line of this
-/// number. The room of `numbers` is used again.
+/// number.
 pub(crate) fn rewrite_row(
     alloc: Global,
     source: &[FormatElement<'_>],
     template: &[FormatElement<'_>],
     number: u64,
     row: &str,
-    numbers: &mut Vec<u64>,
+    room: &mut Room,
     batch: &mut Vec<u8>,
 ) -> Result<(), ReformatError>
     requires { IsSeparated source.now }
     ensures ok { OnOk result (AppendsRow source.now template.now row.now batch.old.items batch.new.items) }
     ensures err { IfErr result (λ why. (RefusesRow source.now template.now number row.now why × (batch.new.items ≡ batch.old.items)) ⊎ (why ≡ ReformatError.NoMemory)) }
 {
-    if !read_row(source, row.as_bytes(), numbers)? {
+    if !read_row(source, row.as_bytes(), &mut room.numbers)? {
         return Err(ReformatError::NotARow { line: number });
     }
-    match vsprintfp(alloc, template, numbers) {
-        Ok(line) => {
-            batch.extend_from_slice(line.as_bytes())?;
+    match vsprintfp_into(alloc, &mut room.line, template, &room.numbers) {
+        Ok(()) => {
+            batch.extend_from_slice(room.line.as_bytes())?;
             batch.push(b'\n')?;
             Ok(())
         }

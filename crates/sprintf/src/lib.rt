@@ -1,7 +1,7 @@
 //! Formats of `printf`, parsed and printed over values.
 #![tactic(auto)]
 
-ghost use Rattle.std.specs.Prelude.{◌≡◌, ◌⊎◌, map, string_bytes, IfOk, IfErr, Ok, Err};
+ghost use Rattle.std.specs.Prelude.{◌≡◌, ◌⊎◌, [], map, string_bytes, IfOk, IfErr, OnOk, OnErr, Ok, Err};
 ghost use Rattle.sprintf.specs.Printed.{printed, take_param, take_text, take_field, PrintsFormat, RefusesFormat};
 ghost use Rattle.sprintf.specs.Reading.{Prints};
 
@@ -68,17 +68,54 @@ pub fn vsprintfp<P: Printf>(
     ensures err { IfErr result (λ e. (printed elements.now (map P.meaning args.now) ≡ Err e) ⊎ (e ≡ PrintfError.NoMemory)) }
 {
     let mut out = String::new(alloc);
+    vsprintfp_into(alloc, &mut out, elements, args)?;
+    Ok(out)
+}
+
+/// Prints as [`vsprintfp`] does, into a text in the place of what that held, so that its room is used again.
+/// After a refusal the text is empty.
+pub fn vsprintfp_into<P: Printf>(
+    alloc: Global,
+    out: &mut String,
+    elements: &[FormatElement<'_>],
+    args: &[P],
+) -> Result<()>
+    ensures ok { OnOk result (printed elements.now (map P.meaning args.now) ≡ Ok (string_bytes out.new)) }
+    ensures err { IfErr result (λ e. (printed elements.now (map P.meaning args.now) ≡ Err e) ⊎ (e ≡ PrintfError.NoMemory)) }
+    ensures empty { OnErr result (string_bytes out.new ≡ []) }
+{
+    out.clear();
+    match print_elements(alloc, out, elements, args) {
+        Ok(()) => Ok(()),
+        Err(cause) => {
+            out.clear();
+            Err(cause)
+        }
+    }
+}
+
+/// Prints the elements into an empty text.
+fn print_elements<P: Printf>(
+    alloc: Global,
+    out: &mut String,
+    elements: &[FormatElement<'_>],
+    args: &[P],
+) -> Result<()>
+    requires { string_bytes out.old ≡ [] }
+    ensures ok { OnOk result (printed elements.now (map P.meaning args.now) ≡ Ok (string_bytes out.new)) }
+    ensures err { IfErr result (λ e. (printed elements.now (map P.meaning args.now) ≡ Err e) ⊎ (e ≡ PrintfError.NoMemory)) }
+{
     let mut rest = args;
     for element in elements {
         match element {
             FormatElement::Verbatim(text) => {
                 out.push_str(text).map_err(|_| PrintfError::NoMemory)?;
             }
-            FormatElement::Format(spec) => rest = print_field(alloc, &mut out, spec, rest)?,
+            FormatElement::Format(spec) => rest = print_field(alloc, out, spec, rest)?,
         }
     }
     if rest.is_empty() {
-        Ok(out)
+        Ok(())
     } else {
         Err(PrintfError::TooManyArgs)
     }

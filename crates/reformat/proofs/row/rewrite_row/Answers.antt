@@ -12,7 +12,7 @@ returns-in_ok-push-in-Ok-clause-ok c =
     let numbers : List ℕ = c.read_row.new.numbers.items in
     let read : IsRow c.args.source.now c.as_bytes.result.now numbers = c.in_ok-read_row.ensures.row c.if-not-branch.false in
     let row : IsRow c.args.source.now c.args.row.now numbers = rw c.as_bytes.ensures.value at read in (
-      string_bytes c.in-Ok.line,
+      string_bytes c.vsprintfp_into.new.out,
       record {
         utf8 = c.utf8.row;
         numbers = numbers;

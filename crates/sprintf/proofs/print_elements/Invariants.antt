@@ -1,6 +1,6 @@
 use Rattle.std.proofs.Common.{◌≡◌, string_bytes, drop, map}
 use Rattle.sprintf.specs.Printed.{onto, printed}
-use Rattle.sprintf.proofs.vsprintfp.Given as goal
+use Rattle.sprintf.proofs.print_elements.Given as goal
 
 abbrev pub invariant-loop-element : goal.invariant-loop-element
 invariant-loop-element g l =
