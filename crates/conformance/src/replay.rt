@@ -1,0 +1,214 @@
+// Every line of the input, and the count of what came of them.
+use crate::case::{Case, push_escaped, read_case, undo, undo_texts};
+use crate::fault::Fault;
+use crate::{formatx_calls, scan_fmt_calls, sprintf_calls, strfmt_calls, whiteread_calls};
+use edge_io::{Sink, Source, write_all};
+use std::alloc::Global;
+
+// How many bytes a read asks for at most.
+const PIECE: usize = 65536;
+
+/// Why the run stopped before the end.
+#[derive(Clone, Copy, Debug, PartialEq, Eq)]
+pub(crate) enum Stop {
+    ReadFault,
+    WriteFault,
+    NoMemory,
+}
+
+/// How many lines there were of each outcome.
+#[derive(Clone, Copy, Debug, PartialEq, Eq)]
+pub(crate) struct Tally {
+    pub passed: usize,
+    pub failed: usize,
+    pub skipped: usize,
+}
+
+/// What came of a line.
+#[derive(Debug, PartialEq, Drop)]
+pub(crate) enum Outcome {
+    Passed,
+    /// What was wanted, and what came.
+    Failed(String),
+    Skipped,
+}
+
+/// Replays the lines of the input, and writes each difference and the counts. It answers the exit status: 0 where no line
+/// failed, 1 where one did, 4 for a read fault, 5 for a write fault, 6 for want of memory.
+pub(crate) fn run<S: Source, K: Sink>(alloc: Global, input: &mut S, output: &mut K) -> u8 {
+    match replay(alloc, input, output) {
+        Ok(tally) if tally.failed == 0 => 0,
+        Ok(_) => 1,
+        Err(Stop::ReadFault) => 4,
+        Err(Stop::WriteFault) => 5,
+        Err(Stop::NoMemory) => 6,
+    }
+}
+
+/// Replays the lines of the input, and writes each difference and the counts.
+pub(crate) fn replay<S: Source, K: Sink>(
+    alloc: Global,
+    input: &mut S,
+    output: &mut K,
+) -> Result<Tally, Stop> {
+    let bytes = read_all(alloc, input)?;
+    let tally = replay_lines(alloc, bytes.as_slice(), output)?;
+    let text = count_text(alloc, &tally).map_err(|_| Stop::NoMemory)?;
+    write_all(output, text.as_bytes()).map_err(|_| Stop::WriteFault)?;
+    Ok(tally)
+}
+
+/// All bytes of the input.
+fn read_all<S: Source>(alloc: Global, input: &mut S) -> Result<Vec<u8>, Stop> {
+    let mut bytes = Vec::new(alloc);
+    let mut piece = vec![in alloc; 0u8; PIECE].map_err(|_| Stop::NoMemory)?;
+    'reading: loop {
+        let count = input.read(&mut piece).map_err(|_| Stop::ReadFault)?;
+        if count == 0 {
+            return Ok(bytes);
+        }
+        if bytes.extend_from_slice(&piece[..count]).is_err() {
+            return Err(Stop::NoMemory);
+        }
+    }
+}
+
+/// Judges each line, and writes what failed.
+fn replay_lines<K: Sink>(alloc: Global, bytes: &[u8], output: &mut K) -> Result<Tally, Stop> {
+    let mut tally = Tally {
+        passed: 0,
+        failed: 0,
+        skipped: 0,
+    };
+    let mut number = 0;
+    let mut rest = bytes;
+    'lines: while let Some((line, after)) = next_line(rest) {
+        number += 1;
+        match judge(alloc, number, line) {
+            Ok(Outcome::Passed) => tally.passed += 1,
+            Ok(Outcome::Skipped) => tally.skipped += 1,
+            Ok(Outcome::Failed(text)) => {
+                tally.failed += 1;
+                write_all(output, text.as_bytes()).map_err(|_| Stop::WriteFault)?;
+            }
+            Err(_) => return Err(Stop::NoMemory),
+        }
+        rest = after;
+    }
+    Ok(tally)
+}
+
+/// The first line and the bytes after it, where there are bytes.
+fn next_line(bytes: &[u8]) -> Option<(&[u8], &[u8])> {
+    if bytes.is_empty() {
+        return None;
+    }
+    match bytes.iter().position(|byte| *byte == b'\n') {
+        Some(place) => Some((&bytes[..place], &bytes[place + 1..])),
+        None => Some((bytes, &bytes[bytes.len()..])),
+    }
+}
+
+/// What came of a line.
+fn judge(alloc: Global, number: usize, line: &[u8]) -> Result<Outcome, Fault> {
+    let Ok(line) = std::str::from_utf8(line) else {
+        return unread(alloc, number, Fault::NotUtf8);
+    };
+    match read_case(alloc, line) {
+        Ok(case) => judge_case(alloc, number, &case),
+        Err(fault) => unread(alloc, number, fault),
+    }
+}
+
+fn judge_case(alloc: Global, number: usize, case: &Case<'_>) -> Result<Outcome, Fault> {
+    if is_skipped(case) {
+        return Ok(Outcome::Skipped);
+    }
+    match answer_of(alloc, case) {
+        Ok(fields) => compare(alloc, number, case.wanted.as_slice(), fields.as_slice()),
+        Err(fault) => unread(alloc, number, fault),
+    }
+}
+
+/// A line that gives no answer has failed.
+fn unread(alloc: Global, number: usize, fault: Fault) -> Result<Outcome, Fault> {
+    if fault == Fault::NoMemory {
+        return Err(Fault::NoMemory);
+    }
+    Ok(Outcome::Failed(format!(in alloc; "line {number}: {fault}\n")?))
+}
+
+/// Lines that wait: expressions in scan formats, and readers over lines.
+fn is_skipped(case: &Case<'_>) -> bool {
+    match (case.target.as_bytes(), case.inputs.first()) {
+        (b"scan_fmt", Some(format)) => scan_fmt_calls::has_expression(format),
+        (b"whiteread", Some(stream)) => case.call == "read" && *stream == "reader",
+        (b"reader", _) => true,
+        _ => false,
+    }
+}
+
+/// Makes the call of a line.
+fn answer_of(alloc: Global, case: &Case<'_>) -> Result<Vec<String>, Fault> {
+    let inputs = undo_texts(alloc, case.inputs.as_slice())?;
+    let inputs = inputs.as_slice();
+    match case.target.as_bytes() {
+        b"sprintf" => sprintf_calls::answer(alloc, case.call, inputs),
+        b"strfmt" => strfmt_calls::answer(alloc, case.call, inputs),
+        b"formatx" => formatx_calls::answer(alloc, case.call, inputs),
+        b"scan_fmt" => scan_fmt_calls::answer(alloc, case.call, inputs),
+        b"whiteread" => whiteread_calls::answer(alloc, case.call, inputs),
+        _ => Err(Fault::NoSuchCrate),
+    }
+}
+
+/// Compares the fields one by one.
+fn compare(
+    alloc: Global,
+    number: usize,
+    wanted: &[&str],
+    came: &[String],
+) -> Result<Outcome, Fault> {
+    if is_answer(alloc, wanted, came)? {
+        return Ok(Outcome::Passed);
+    }
+    let mut text = format!(in alloc; "line {number}: wanted")?;
+    'wanted: for field in wanted {
+        write!(text, "\t{field}")?;
+    }
+    text.push_str("\tcame")?;
+    'came: for field in came {
+        text.push('\t')?;
+        push_escaped(&mut text, field.as_str())?;
+    }
+    text.push('\n')?;
+    Ok(Outcome::Failed(text))
+}
+
+/// Whether the fields that came are those that are wanted.
+fn is_answer(alloc: Global, wanted: &[&str], came: &[String]) -> Result<bool, Fault> {
+    if wanted.len() != came.len() {
+        return Ok(false);
+    }
+    'fields: for (field, text) in wanted.iter().zip(came) {
+        if undo(alloc, field)?.as_slice() != text.as_bytes() {
+            return Ok(false);
+        }
+    }
+    Ok(true)
+}
+
+/// The last line: how many lines passed, failed and were skipped.
+pub(crate) fn count_text(alloc: Global, tally: &Tally) -> Result<String, Fault> {
+    let Tally {
+        passed,
+        failed,
+        skipped,
+    } = tally;
+    let mut text = format!(in alloc; "{passed} passed, {failed} failed")?;
+    if *skipped > 0 {
+        write!(text, ", {skipped} skipped")?;
+    }
+    text.push('\n')?;
+    Ok(text)
+}
