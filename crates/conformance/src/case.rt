@@ -1,4 +1,6 @@
 // One line of the input: a call with its inputs, and the answer that is wanted.
+ghost use Rattle.std.specs.Prelude.{◌<◌, length, IfOk, IfSome};
+
 use crate::fault::Fault;
 use std::alloc::Global;
 
@@ -42,7 +44,9 @@ pub(crate) fn read_case(alloc: Global, line: &str) -> Result<Case<'_>, Fault> {
 }
 
 /// The byte that the text spells first, and the text after it.
-fn next_byte(text: &[u8]) -> Result<Option<(u8, &[u8])>, Fault> {
+fn next_byte(text: &[u8]) -> Result<Option<(u8, &[u8])>, Fault>
+    ensures { IfOk result (λ step. IfSome step (λ found. length found.1.now < length text.now)) }
+{
     match text {
         [] => Ok(None),
         [b'\\', b'\\', rest @ ..] => Ok(Some((b'\\', rest))),
@@ -59,7 +63,9 @@ fn next_byte(text: &[u8]) -> Result<Option<(u8, &[u8])>, Fault> {
 }
 
 /// The number of a hexadecimal digit, below 16.
-fn digit(byte: u8) -> Option<u8> {
+fn digit(byte: u8) -> Option<u8>
+    ensures { IfSome result (λ number. number < 16) }
+{
     match byte {
         b'0'..=b'9' => Some(byte - b'0'),
         b'a'..=b'f' => Some(byte - b'a' + 10),

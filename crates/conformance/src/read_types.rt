@@ -18,6 +18,8 @@ pub(crate) fn call_at<C: TypedCall>(
 ) -> Result<Vec<String>, Fault> {
     match name.as_bytes() {
         [b'(', b')'] => call.at::<()>(alloc),
+        [b'(', b'u', ..] => call_at_unsigned_first(alloc, name, call),
+        [b'(', b'i', ..] => call_at_signed_first(alloc, name, call),
         [b'(', ..] => call_at_tuple(alloc, name, call),
         [b'O', ..] => call_at_option(alloc, name, call),
         [b'V', ..] => call_at_vec(alloc, name, call),
@@ -54,41 +56,63 @@ fn call_at_scalar<C: TypedCall>(
     }
 }
 
-/// Tuples.
-fn call_at_tuple<C: TypedCall>(
+/// Tuples with an unsigned number at their front.
+fn call_at_unsigned_first<C: TypedCall>(
+    alloc: Global,
+    name: &str,
+    call: &mut C,
+) -> Result<Vec<String>, Fault> {
+    match name.as_bytes() {
+        b"(u8,u8)" => call.at::<(u8, u8)>(alloc),
+        b"(u8,u16)" => call.at::<(u8, u16)>(alloc),
+        b"(u8,u8,u8)" => call.at::<(u8, u8, u8)>(alloc),
+        b"(u8,String)" => call.at::<(u8, String)>(alloc),
+        b"(u8,Vec<u8>)" => call.at::<(u8, Vec<u8>)>(alloc),
+        b"(u8,u8,u8,u8)" => call.at::<(u8, u8, u8, u8)>(alloc),
+        b"(u16,u64,usize)" => call.at::<(u16, u64, usize)>(alloc),
+        b"(u8,u8,u8,u8,u8)" => call.at::<(u8, u8, u8, u8, u8)>(alloc),
+        b"(u8,u8,u8,u8,u8,u8)" => call.at::<(u8, u8, u8, u8, u8, u8)>(alloc),
+        _ => Err(Fault::NoSuchType),
+    }
+}
+
+/// Tuples with a signed number at their front.
+fn call_at_signed_first<C: TypedCall>(
     alloc: Global,
     name: &str,
     call: &mut C,
 ) -> Result<Vec<String>, Fault> {
     match name.as_bytes() {
         b"(i32,)" => call.at::<(i32,)>(alloc),
-        b"(u8,u8)" => call.at::<(u8, u8)>(alloc),
-        b"((),i32)" => call.at::<((), i32)>(alloc),
         b"(i32,())" => call.at::<(i32, ())>(alloc),
-        b"(u8,u16)" => call.at::<(u8, u16)>(alloc),
         b"(i32,i32)" => call.at::<(i32, i32)>(alloc),
+        b"(i32,Skip)" => call.at::<(i32, Skip)>(alloc),
+        b"(i32,SkipAll)" => call.at::<(i32, SkipAll)>(alloc),
+        b"(i8,i16,isize)" => call.at::<(i8, i16, isize)>(alloc),
+        b"(i32,String,char)" => call.at::<(i32, String, char)>(alloc),
+        _ => Err(Fault::NoSuchType),
+    }
+}
+
+/// Tuples with another type at their front.
+fn call_at_tuple<C: TypedCall>(
+    alloc: Global,
+    name: &str,
+    call: &mut C,
+) -> Result<Vec<String>, Fault> {
+    match name.as_bytes() {
+        b"((),i32)" => call.at::<((), i32)>(alloc),
         b"(Skip,i32)" => call.at::<(Skip, i32)>(alloc),
         b"(bool,i32)" => call.at::<(bool, i32)>(alloc),
-        b"(i32,Skip)" => call.at::<(i32, Skip)>(alloc),
-        b"(u8,u8,u8)" => call.at::<(u8, u8, u8)>(alloc),
         b"((),(),i32)" => call.at::<((), (), i32)>(alloc),
         b"(String,u8)" => call.at::<(String, u8)>(alloc),
         b"(char,char)" => call.at::<(char, char)>(alloc),
-        b"(u8,String)" => call.at::<(u8, String)>(alloc),
         b"(Vec<u8>,u8)" => call.at::<(Vec<u8>, u8)>(alloc),
-        b"(u8,Vec<u8>)" => call.at::<(u8, Vec<u8>)>(alloc),
-        b"(i32,SkipAll)" => call.at::<(i32, SkipAll)>(alloc),
-        b"(u8,u8,u8,u8)" => call.at::<(u8, u8, u8, u8)>(alloc),
-        b"(i8,i16,isize)" => call.at::<(i8, i16, isize)>(alloc),
         b"(Option<u8>,u8)" => call.at::<(Option<u8>, u8)>(alloc),
         b"(Skip,i32,Skip)" => call.at::<(Skip, i32, Skip)>(alloc),
-        b"(u16,u64,usize)" => call.at::<(u16, u64, usize)>(alloc),
-        b"(u8,u8,u8,u8,u8)" => call.at::<(u8, u8, u8, u8, u8)>(alloc),
         b"(Lengthed<u8>,u8)" => call.at::<(Lengthed<u8>, u8)>(alloc),
-        b"(i32,String,char)" => call.at::<(i32, String, char)>(alloc),
         b"(String,u8,SkipAll)" => call.at::<(String, u8, SkipAll)>(alloc),
         b"(Zeroed<u8>,String)" => call.at::<(Zeroed<u8>, String)>(alloc),
-        b"(u8,u8,u8,u8,u8,u8)" => call.at::<(u8, u8, u8, u8, u8, u8)>(alloc),
         b"((i32,i32),(i32,i32))" => call.at::<((i32, i32), (i32, i32))>(alloc),
         b"((u8,u8),Option<i32>)" => call.at::<((u8, u8), Option<i32>)>(alloc),
         b"((i32,i32),Option<i32>)" => call.at::<((i32, i32), Option<i32>)>(alloc),

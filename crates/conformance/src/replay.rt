@@ -1,4 +1,7 @@
 // Every line of the input, and the count of what came of them.
+ghost use Rattle.std.specs.Prelude.{◌≡◌, ◌<◌, length, IfSome, MatchOption, [], ◌+◌, IfOk};
+ghost use Rattle.conformance.specs.Lines.{line_count};
+
 use crate::case::{Case, push_escaped, read_case, undo, undo_texts};
 use crate::fault::Fault;
 use crate::{formatx_calls, scan_fmt_calls, sprintf_calls, strfmt_calls, whiteread_calls};
@@ -74,7 +77,9 @@ fn read_all<S: Source>(alloc: Global, input: &mut S) -> Result<Vec<u8>, Stop> {
 }
 
 /// Judges each line, and writes what failed.
-fn replay_lines<K: Sink>(alloc: Global, bytes: &[u8], output: &mut K) -> Result<Tally, Stop> {
+fn replay_lines<K: Sink>(alloc: Global, bytes: &[u8], output: &mut K) -> Result<Tally, Stop>
+    ensures { IfOk result (λ tally. tally.passed + tally.failed + tally.skipped ≡ line_count bytes.now) }
+{
     let mut tally = Tally {
         passed: 0,
         failed: 0,
@@ -99,14 +104,19 @@ fn replay_lines<K: Sink>(alloc: Global, bytes: &[u8], output: &mut K) -> Result<
 }
 
 /// The first line and the bytes after it, where there are bytes.
-fn next_line(bytes: &[u8]) -> Option<(&[u8], &[u8])> {
+fn next_line(bytes: &[u8]) -> Option<(&[u8], &[u8])>
+    ensures count { MatchOption result (line_count bytes.now ≡ 0) (λ found. line_count bytes.now ≡ 1 + line_count found.1.now) }
+    ensures shorter { IfSome result (λ found. length found.1.now < length bytes.now) }
+{
     if bytes.is_empty() {
         return None;
     }
-    match bytes.iter().position(|byte| *byte == b'\n') {
-        Some(place) => Some((&bytes[..place], &bytes[place + 1..])),
-        None => Some((bytes, &bytes[bytes.len()..])),
+    'bytes: for (i, byte) in bytes.iter().enumerate() {
+        if *byte == b'\n' {
+            return Some((&bytes[..i], &bytes[i + 1..]));
+        }
     }
+    Some((bytes, &bytes[bytes.len()..]))
 }
 
 /// What came of a line.
