@@ -2,7 +2,7 @@
 # make test       the gate: every proof, must-fail edit, test and program
 # make demo       rewrites a real input, and shows it before and after
 # make examples   runs every example and compares it with what is expected
-# make conformance      replays what the Rust crates answered; FILE=path takes other cases
+# make conformance  replays what the Rust crates answered; FILE=path: other cases
 # make faults     each allocation refused in turn, on one row
 # make install    copies the program and its manual page below PREFIX
 # make clean      removes what was built
