@@ -1,6 +1,9 @@
 // Every line of the input, and the count of what came of them.
-ghost use Rattle.std.specs.Prelude.{◌≡◌, ◌<◌, length, IfSome, MatchOption, [], ◌+◌, IfOk};
+ghost use Rattle.std.specs.Prelude.{◌≡◌, ◌⊎◌, ◌<◌, ◌+◌, length, string_bytes, IfSome, MatchOption, IfOk, IfErr, OnOk, OnErr, Result};
+ghost use Rattle.std.specs.Io.KnownBytes.{Appends, Consumes, IsAtEnd};
+ghost use Rattle.edge_io.specs.Ends.{Rises};
 ghost use Rattle.conformance.specs.Lines.{line_count};
+ghost use Rattle.conformance.specs.Report.{Told, Report, IsCause, Replays, count_text, failure_text, status_of};
 
 use crate::case::{Case, push_escaped, read_case, undo, undo_texts};
 use crate::fault::Fault;
@@ -9,7 +12,7 @@ use edge_io::{Sink, Source, write_all};
 use std::alloc::Global;
 
 // How many bytes a read asks for at most.
-const PIECE: usize = 65536;
+const PIECE: usize = 16384;
 
 /// Why the run stopped before the end.
 #[derive(Clone, Copy, Debug, PartialEq, Eq)]
@@ -38,10 +41,20 @@ pub(crate) enum Outcome {
 
 /// Replays the lines of the input, and writes each difference and the counts. It answers the exit status: 0 where no line
 /// failed, 1 where one did, 4 for a read fault, 5 for a write fault, 6 for want of memory.
-pub(crate) fn run<S: Source, K: Sink>(alloc: Global, input: &mut S, output: &mut K) -> u8 {
-    match replay(alloc, input, output) {
-        Ok(tally) if tally.failed == 0 => 0,
-        Ok(_) => 1,
+pub(crate) fn run<S: Source, K: Sink>(alloc: Global, input: &mut S, output: &mut K) -> u8
+    ensures { (answer : Result Tally Stop)
+        × Replays (S.rest input.old) (S.rest input.new) (K.held output.old) (K.held output.new) (S.faults input.old) (S.faults input.new) (K.faults output.old) (K.faults output.new) answer
+        × (result ≡ status_of answer) }
+{
+    let answer = replay(alloc, input, output);
+    status_of(answer)
+}
+
+fn status_of(answer: Result<Tally, Stop>) -> u8
+    ensures { result ≡ status_of answer }
+{
+    match answer {
+        Ok(tally) => { if tally.failed == 0 { 0 } else { 1 } }
         Err(Stop::ReadFault) => 4,
         Err(Stop::WriteFault) => 5,
         Err(Stop::NoMemory) => 6,
@@ -49,24 +62,32 @@ pub(crate) fn run<S: Source, K: Sink>(alloc: Global, input: &mut S, output: &mut
 }
 
 /// Replays the lines of the input, and writes each difference and the counts.
-pub(crate) fn replay<S: Source, K: Sink>(
-    alloc: Global,
-    input: &mut S,
-    output: &mut K,
-) -> Result<Tally, Stop> {
+fn replay<S: Source, K: Sink>(alloc: Global, input: &mut S, output: &mut K) -> Result<Tally, Stop>
+    ensures { Replays (S.rest input.old) (S.rest input.new) (K.held output.old) (K.held output.new) (S.faults input.old) (S.faults input.new) (K.faults output.old) (K.faults output.new) result }
+{
     let bytes = read_all(alloc, input)?;
     let tally = replay_lines(alloc, bytes.as_slice(), output)?;
-    let text = count_text(alloc, &tally).map_err(|_| Stop::NoMemory)?;
-    write_all(output, text.as_bytes()).map_err(|_| Stop::WriteFault)?;
+    let Ok(text) = count_text(alloc, &tally) else {
+        return Err(Stop::NoMemory);
+    };
+    if write_all(output, text.as_bytes()).is_err() {
+        return Err(Stop::WriteFault);
+    }
     Ok(tally)
 }
 
 /// All bytes of the input.
-fn read_all<S: Source>(alloc: Global, input: &mut S) -> Result<Vec<u8>, Stop> {
+fn read_all<S: Source>(alloc: Global, input: &mut S) -> Result<Vec<u8>, Stop>
+    ensures bytes { IfOk result (λ bytes. Consumes (S.rest input.old) (S.rest input.new) bytes.items) }
+    ensures end { OnOk result (IsAtEnd (S.rest input.new)) }
+    ensures cause { IfErr result (λ stop. IsCause (S.faults input.old) (S.faults input.new) 0 0 stop) }
+{
     let mut bytes = Vec::new(alloc);
-    let mut piece = vec![in alloc; 0u8; PIECE].map_err(|_| Stop::NoMemory)?;
+    let mut piece = [0; PIECE];
     'reading: loop {
-        let count = input.read(&mut piece).map_err(|_| Stop::ReadFault)?;
+        let Ok(count) = input.read(&mut piece) else {
+            return Err(Stop::ReadFault);
+        };
         if count == 0 {
             return Ok(bytes);
         }
@@ -76,9 +97,12 @@ fn read_all<S: Source>(alloc: Global, input: &mut S) -> Result<Vec<u8>, Stop> {
     }
 }
 
-/// Judges each line, and writes what failed.
+/// Judges each line, and tells what failed.
 fn replay_lines<K: Sink>(alloc: Global, bytes: &[u8], output: &mut K) -> Result<Tally, Stop>
-    ensures { IfOk result (λ tally. tally.passed + tally.failed + tally.skipped ≡ line_count bytes.now) }
+    ensures lines { IfOk result (λ tally. tally.passed + tally.failed + tally.skipped ≡ line_count bytes.now) }
+    ensures told { IfOk result (λ tally. Told (K.held output.old) (K.held output.new) tally.failed) }
+    ensures no_fault { OnOk result (K.faults output.new ≡ K.faults output.old) }
+    ensures cause { IfErr result (λ stop. IsCause 0 0 (K.faults output.old) (K.faults output.new) stop) }
 {
     let mut tally = Tally {
         passed: 0,
@@ -89,18 +113,38 @@ fn replay_lines<K: Sink>(alloc: Global, bytes: &[u8], output: &mut K) -> Result<
     let mut rest = bytes;
     'lines: while let Some((line, after)) = next_line(rest) {
         number += 1;
-        match judge(alloc, number, line) {
+        match judge(alloc, line) {
             Ok(Outcome::Passed) => tally.passed += 1,
             Ok(Outcome::Skipped) => tally.skipped += 1,
-            Ok(Outcome::Failed(text)) => {
+            Ok(Outcome::Failed(why)) => {
                 tally.failed += 1;
-                write_all(output, text.as_bytes()).map_err(|_| Stop::WriteFault)?;
+                tell_failure(alloc, output, number, why.as_str())?;
             }
             Err(_) => return Err(Stop::NoMemory),
         }
         rest = after;
     }
     Ok(tally)
+}
+
+/// Writes the number of a line and why it failed.
+fn tell_failure<K: Sink>(
+    alloc: Global,
+    output: &mut K,
+    number: usize,
+    why: &str,
+) -> Result<(), Stop>
+    ensures ok { OnOk result (Appends (K.held output.old) (K.held output.new) (failure_text number why.now)) }
+    ensures no_fault { OnOk result (K.faults output.new ≡ K.faults output.old) }
+    ensures cause { IfErr result (λ stop. IsCause 0 0 (K.faults output.old) (K.faults output.new) stop) }
+{
+    let Ok(text) = format!(in alloc; "line {number}: {why}\n") else {
+        return Err(Stop::NoMemory);
+    };
+    if write_all(output, text.as_bytes()).is_err() {
+        return Err(Stop::WriteFault);
+    }
+    Ok(())
 }
 
 /// The first line and the bytes after it, where there are bytes.
@@ -120,32 +164,32 @@ fn next_line(bytes: &[u8]) -> Option<(&[u8], &[u8])>
 }
 
 /// What came of a line.
-fn judge(alloc: Global, number: usize, line: &[u8]) -> Result<Outcome, Fault> {
+fn judge(alloc: Global, line: &[u8]) -> Result<Outcome, Fault> {
     let Ok(line) = std::str::from_utf8(line) else {
-        return unread(alloc, number, Fault::NotUtf8);
+        return unread(alloc, Fault::NotUtf8);
     };
     match read_case(alloc, line) {
-        Ok(case) => judge_case(alloc, number, &case),
-        Err(fault) => unread(alloc, number, fault),
+        Ok(case) => judge_case(alloc, &case),
+        Err(fault) => unread(alloc, fault),
     }
 }
 
-fn judge_case(alloc: Global, number: usize, case: &Case<'_>) -> Result<Outcome, Fault> {
+fn judge_case(alloc: Global, case: &Case<'_>) -> Result<Outcome, Fault> {
     if is_skipped(case) {
         return Ok(Outcome::Skipped);
     }
     match answer_of(alloc, case) {
-        Ok(fields) => compare(alloc, number, case.wanted.as_slice(), fields.as_slice()),
-        Err(fault) => unread(alloc, number, fault),
+        Ok(fields) => compare(alloc, case.wanted.as_slice(), fields.as_slice()),
+        Err(fault) => unread(alloc, fault),
     }
 }
 
 /// A line that gives no answer has failed.
-fn unread(alloc: Global, number: usize, fault: Fault) -> Result<Outcome, Fault> {
+fn unread(alloc: Global, fault: Fault) -> Result<Outcome, Fault> {
     if fault == Fault::NoMemory {
         return Err(Fault::NoMemory);
     }
-    Ok(Outcome::Failed(format!(in alloc; "line {number}: {fault}\n")?))
+    Ok(Outcome::Failed(fault.to_string(alloc)?))
 }
 
 /// Lines that wait: expressions in scan formats, and readers over lines.
@@ -173,16 +217,11 @@ fn answer_of(alloc: Global, case: &Case<'_>) -> Result<Vec<String>, Fault> {
 }
 
 /// Compares the fields one by one.
-fn compare(
-    alloc: Global,
-    number: usize,
-    wanted: &[&str],
-    came: &[String],
-) -> Result<Outcome, Fault> {
+fn compare(alloc: Global, wanted: &[&str], came: &[String]) -> Result<Outcome, Fault> {
     if is_answer(alloc, wanted, came)? {
         return Ok(Outcome::Passed);
     }
-    let mut text = format!(in alloc; "line {number}: wanted")?;
+    let mut text = String::from_str(alloc, "wanted")?;
     'wanted: for field in wanted {
         write!(text, "\t{field}")?;
     }
@@ -191,7 +230,6 @@ fn compare(
         text.push('\t')?;
         push_escaped(&mut text, field.as_str())?;
     }
-    text.push('\n')?;
     Ok(Outcome::Failed(text))
 }
 
@@ -209,7 +247,9 @@ fn is_answer(alloc: Global, wanted: &[&str], came: &[String]) -> Result<bool, Fa
 }
 
 /// The last line: how many lines passed, failed and were skipped.
-pub(crate) fn count_text(alloc: Global, tally: &Tally) -> Result<String, Fault> {
+fn count_text(alloc: Global, tally: &Tally) -> Result<String, Fault>
+    ensures { IfOk result (λ text. string_bytes text ≡ count_text tally.now) }
+{
     let Tally {
         passed,
         failed,
