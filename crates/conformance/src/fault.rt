@@ -4,7 +4,7 @@ use std::alloc::{AllocError, AllocFailed};
 use std::fmt;
 
 /// Why a line gives no answer. All but `NoMemory` are faults of the line itself.
-#[derive(Clone, Copy, Debug, PartialEq, Eq)]
+#[derive(Clone, Copy, PartialEq, Eq)]
 pub(crate) enum Fault {
     /// The line isn't UTF-8, or a field that is to be a text isn't once its escapes are undone.
     NotUtf8,

@@ -15,7 +15,7 @@ use std::alloc::Global;
 const PIECE: usize = 16384;
 
 /// Why the run stopped before the end.
-#[derive(Clone, Copy, Debug, PartialEq, Eq)]
+#[derive(Clone, Copy)]
 pub(crate) enum Stop {
     ReadFault,
     WriteFault,
@@ -23,7 +23,7 @@ pub(crate) enum Stop {
 }
 
 /// How many lines there were of each outcome.
-#[derive(Clone, Copy, Debug, PartialEq, Eq)]
+#[derive(Clone, Copy)]
 pub(crate) struct Tally {
     pub passed: usize,
     pub failed: usize,
@@ -31,8 +31,8 @@ pub(crate) struct Tally {
 }
 
 /// What came of a line.
-#[derive(Debug, PartialEq, Drop)]
-pub(crate) enum Outcome {
+#[derive(Drop)]
+enum Outcome {
     Passed,
     /// What was wanted, and what came.
     Failed(String),
@@ -54,7 +54,8 @@ fn status_of(answer: Result<Tally, Stop>) -> u8
     ensures { result ≡ status_of answer }
 {
     match answer {
-        Ok(tally) => { if tally.failed == 0 { 0 } else { 1 } }
+        Ok(tally) if tally.failed == 0 => 0,
+        Ok(_) => 1,
         Err(Stop::ReadFault) => 4,
         Err(Stop::WriteFault) => 5,
         Err(Stop::NoMemory) => 6,

@@ -1,4 +1,7 @@
 // The calls of strfmt.
+ghost use Rattle.std.specs.Prelude.{◌≡◌};
+ghost use Rattle.formatx.specs.Values.{bool_text};
+
 use crate::fault::Fault;
 use crate::value::{Value, read_value};
 use std::alloc::Global;
@@ -213,6 +216,12 @@ fn number_text(alloc: Global, name: &str, number: Option<usize>) -> Result<Strin
     }
 }
 
+fn bool_text(flag: bool) -> &'static str
+    ensures { result.now ≡ bool_text flag }
+{
+    if flag { "true" } else { "false" }
+}
+
 /// A value displays itself as strfmt's own implementation of its type does; `bool` and `char`, which have none there,
 /// as their texts.
 impl DisplayStr for Value {
@@ -234,8 +243,7 @@ impl DisplayStr for Value {
             Value::I64(n) => n.display_str(f),
             Value::I128(n) => f.i128(*n),
             Value::Isize(n) => n.display_str(f),
-            Value::Bool(true) => f.str("true"),
-            Value::Bool(false) => f.str("false"),
+            Value::Bool(flag) => f.str(bool_text(*flag)),
             Value::Char(c) => f.str(c.encode_utf8(&mut [0; 4])),
             Value::Str(text) => text.as_str().display_str(f),
             Value::String(text) => text.display_str(f),

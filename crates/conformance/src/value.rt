@@ -3,7 +3,7 @@ use crate::fault::Fault;
 use std::alloc::Global;
 
 /// A value of one of the kinds that lines have.
-#[derive(Debug, PartialEq, Drop)]
+#[derive(Drop)]
 pub(crate) enum Value {
     U8(u8),
     U16(u16),
