@@ -202,29 +202,43 @@ fn segment_text(alloc: Global, segment: &Segment) -> Result<String, Fault> {
 fn placeholder_text(alloc: Global, placeholder: &Placeholder) -> Result<String, Fault> {
     let mut text = String::from_str(alloc, "P:")?;
     push_span(&mut text, placeholder.span)?;
-    text.push_str(" arg=")?;
-    match placeholder.argument {
-        Argument::Implicit => text.push_str("next")?,
-        Argument::Positional(position) => write!(text, "{position}")?,
-        Argument::Named(span) => push_span(&mut text, span)?,
-    }
+    push_argument(&mut text, &placeholder.argument)?;
     let spec = &placeholder.spec;
     push_options(&mut text, spec)?;
-    text.push_str(" width=")?;
-    match &spec.width {
-        Some(count) => push_count(&mut text, count)?,
-        None => text.push('-')?,
-    }
-    text.push_str(" precision=")?;
-    match &spec.precision {
-        Some(Precision::Count(count)) => push_count(&mut text, count)?,
-        Some(Precision::Star) => text.push('*')?,
-        None => text.push('-')?,
-    }
+    push_width(&mut text, &spec.width)?;
+    push_precision(&mut text, &spec.precision)?;
     let format_type = spec.format_type;
     let is_default = spec.is_default();
     write!(text, " type={format_type:?} default={is_default}")?;
     Ok(text)
+}
+
+fn push_argument(text: &mut String, argument: &Argument) -> Result<(), Fault> {
+    match argument {
+        Argument::Implicit => Ok(text.push_str(" arg=next")?),
+        Argument::Positional(position) => Ok(write!(text, " arg={position}")?),
+        Argument::Named(span) => {
+            text.push_str(" arg=")?;
+            push_span(text, *span)
+        }
+    }
+}
+
+fn push_width(text: &mut String, width: &Option<Count>) -> Result<(), Fault> {
+    text.push_str(" width=")?;
+    match width {
+        Some(count) => push_count(text, count),
+        None => Ok(text.push('-')?),
+    }
+}
+
+fn push_precision(text: &mut String, precision: &Option<Precision>) -> Result<(), Fault> {
+    text.push_str(" precision=")?;
+    match precision {
+        Some(Precision::Count(count)) => push_count(text, count),
+        Some(Precision::Star) => Ok(text.push('*')?),
+        None => Ok(text.push('-')?),
+    }
 }
 
 /// Appends fill, alignment, sign and the two flags.
