@@ -1,16 +1,16 @@
 -- Calls of `read`, one after another.
-use Rattle.std.proofs.Common.{◌≡◌, ◌≢◌, ◌≤◌, ◌<◌, ◌+◌, ℕ, Bool, true, false, ◌||◌, IsTrue, List, [], ◌∷◌, ◌++◌, length, Option, Some, None, Result, Ok, Err, refl, sym, ◌∙◌, ap, subst, inl, inr, arith, Vec}
-use Rattle.std.specs.Global.{Global}
+use Rattle.std.proofs.Common.{◌≡◌, ◌≤◌, ◌+◌, ℕ, Bool, true, false, ◌||◌, IsTrue, List, [], ◌∷◌, ◌++◌, Option, Some, None, Result, Ok, Err, refl, sym, ◌∙◌, ap, subst, inl, inr, arith}
 use Rattle.whiteread.specs.Words.{Words}
 use Rattle.whiteread.specs.Stream.{Stream, Answer, OnNoMemory}
-use Rattle.whiteread.specs.Reading.{Relation, Reading, ReadCall, ReadsTold, LowersBy, EndsAtShort, CountsRead, StepsBy, Calls, no_call, one_call, some_calls}
-use Rattle.whiteread.specs.Reads.{ReadsOption, optional, ReadsEach, all_values, ReadsAll}
+use Rattle.whiteread.specs.Reading.{Relation, Reading, ReadCall, ReadsTold, EndsAtShort, CountsRead, StepsBy, Calls, no_call, one_call, some_calls, Reached}
+use Rattle.whiteread.specs.Reads.{ReadsOption, optional, ReadsEach}
 use Rattle.std.specs.List.{All}
 use Rattle.whiteread.specs.Tuples.{ReadsThen, then, ReadsLater, later}
-use Rattle.whiteread.specs.Adapted.{ReadsToZero, to_zero}
+use Rattle.whiteread.specs.Adapted.{reads_after, ReadsToZero, to_zero}
+use Rattle.whiteread.proofs.ReachLemmas.{reached_none, reached_then, reached_read, reached_reads}
 use Rattle.whiteread.specs.declared.stream.error.Error.{Error}
 use Rattle.whiteread.specs.declared.stream.error.Error.TheVariants.{TooShort, Leftovers, ParseError, IoError, NoMemory}
-use Rattle.whiteread.specs.declared.stream.error.Progress.TheVariants.{Nothing, Partial}
+use Rattle.whiteread.specs.declared.stream.error.Progress.TheVariants.{Nothing}
 use Rattle.whiteread.specs.declared.stream.error.IoFault.{IoFault}
 
 abbrev Counts : Type 0
@@ -94,7 +94,7 @@ then_refused {S} {A} {B} {C} stream front last first second old mid new value wh
   short = short_refusal B C why (stream.at_end new) two.short;
   ends = tt;
   counts = counts_refusal B C (stream.faults old) why (stream.faults new) (counts_from {T = B} (stream.faults old) (stream.faults mid) (Err why) (stream.faults new) one.counts two.counts);
-  step = tt;
+  step = reached_reads stream first second old (Ok value) mid (Err why) new one two;
   memory = memory_second B C why first.allocates second.allocates stream.allocates two.memory;
 }
 
@@ -112,7 +112,7 @@ then_refused_first {S} {A} {B} {C} stream front last first second old new why on
   short = short_refusal A C why (stream.at_end new) one.short;
   ends = tt;
   counts = counts_refusal A C (stream.faults old) why (stream.faults new) one.counts;
-  step = tt;
+  step = reached_read stream first old (Err why) new one;
   memory = memory_first A C why first.allocates second.allocates stream.allocates one.memory;
 }
 
@@ -132,7 +132,7 @@ then_read stream front last first second old mid new value one two = record {
   short = tt;
   ends = two.ends;
   counts = two.counts ∙ one.counts;
-  step = tt;
+  step = reached_reads stream first second old (Ok (front value)) mid (Ok (last value)) new one two;
   memory = tt;
 }
 
@@ -147,13 +147,14 @@ pub record EachCall {S T : Type 0} (stream : Stream S) (reading : Reading T) (ol
   pub words : EachTold reading.reads (stream.left old) values (stream.left new)
   pub bound : stream.bound new ≤ stream.bound old
   pub counts : stream.faults new ≡ stream.faults old
+  pub reached : Reached stream.step old new
 
 each_told_none : {T : Type 0} (reads : Relation T) (start : Option Words) → EachTold reads start [] start
 each_told_none reads None = tt
 each_told_none reads (Some words) = (words, refl, refl)
 
 pub each_none : {S T : Type 0} (stream : Stream S) (reading : Reading T) (old : S) → EachCall stream reading old [] old
-each_none stream reading old = record { words = each_told_none reading.reads (stream.left old); bound = omega arith; counts = refl }
+each_none stream reading old = record { words = each_told_none reading.reads (stream.left old); bound = omega arith; counts = refl; reached = reached_none stream.step old old refl }
 
 reads_more : {T : Type 0} (reads : Relation T) (words mid rest : Words) (values : List T) (value : T)
     → ReadsEach reads words values mid → reads mid (Ok value) rest → ReadsEach reads words (values ++ value ∷ []) rest
@@ -173,6 +174,7 @@ each_more stream reading old mid new values value each one = record {
   words = each_told_more reading.reads (stream.left old) (stream.left mid) (stream.left new) values value each.words one.words;
   bound = omega (arith, each.bound, one.bound);
   counts = one.counts ∙ each.counts;
+  reached = reached_then stream.step old mid new each.reached (reached_read stream reading mid (Ok value) new one);
 }
 
 told_nothing : {T : Type 0} (reads : Relation T) (start new : Option Words) → ReadsTold reads start (Err (TooShort Nothing)) new → ReadsTold (ReadsOption reads) start (Ok None) new
@@ -182,7 +184,7 @@ told_nothing reads (Some words) new told = told
 none_step : {S : Type 0} (T : Type 0) (calls : Calls) (step : S → Answer → S → Type 0) (old new : S) → StepsBy {T = T} calls step old (Err (TooShort Nothing)) new → StepsBy {T = Option T} calls step old (Ok None) new
 none_step T no_call step old new by = by
 none_step T one_call step old new by = (by.0, by.1, tt)
-none_step T some_calls step old new by = tt
+none_step T some_calls step old new by = by
 
 -- nothing of an optional value
 pub none_read : {S T : Type 0} (stream : Stream S) (reading : Reading T) (old new : S)
@@ -222,7 +224,7 @@ to_zero_read stream items zero reading old new value last some is each least = r
   short = tt;
   ends = λ never. absurd never;
   counts = each.counts;
-  step = tt;
+  step = each.reached;
   memory = tt;
 }
 
@@ -240,4 +242,44 @@ later_value {S} {T} stream reading old new value one = record {
   counts = one.counts;
   step = one.step;
   memory = tt;
+}
+
+-- values one after another, and then another reading
+pub reached_each : {S T U : Type 0} (stream : Stream S) (reading : Reading T) (next : Reading U) (old mid new : S) (values : List T) (answer : Result U Error)
+    → EachCall stream reading old values mid → ReadCall stream next mid answer new → Reached stream.step old new
+reached_each stream reading next old mid new values answer each one = reached_then stream.step old mid new each.reached (reached_read stream next mid answer new one)
+
+after_some : {T : Type 0} (values : List T) (value : T) (reads : Relation T) (words : Words) (why : Error) (rest : Words)
+    → ReadsLater reads words (Err why) rest → reads_after (values ++ value ∷ []) reads words (Err why) rest
+after_some [] value reads words why rest read = read
+after_some (v ∷ values) value reads words why rest read = read
+
+told_zero_refused : {T W : Type 0} (items : W → List T) (zero : T → Type 0) (reads : Relation T) (start mid : Option Words) (values : List T) (value : T) (why : Error) (new : Option Words)
+    → All (λ item. ¬ (zero item)) (values ++ value ∷ []) → EachTold reads start (values ++ value ∷ []) mid → ReadsTold (ReadsLater reads) mid (Err why) new
+    → ReadsTold (ReadsToZero items zero reads) start (Err why) new
+told_zero_refused items zero reads None mid values value why new some each one = told_none (ReadsToZero items zero reads) (Err why) new
+told_zero_refused items zero reads (Some words) mid values value why new some each one =
+    told_refusal (ReadsLater reads) (ReadsToZero items zero reads) each.0 words why new
+    (λ rest read. (values ++ value ∷ [], each.0, each.2, some, after_some values value reads each.0 why rest read))
+    (told_at (ReadsLater reads) mid each.0 (Err why) new each.1 one)
+
+memory_own : (T : Type 0) (why : Error) (stream : Bool) → OnNoMemory {T = T} (Err why) (IsTrue (true || stream))
+memory_own T (TooShort progress) stream = tt
+memory_own T Leftovers stream = tt
+memory_own T ParseError stream = tt
+memory_own T (IoError fault) stream = tt
+memory_own T NoMemory stream = refl
+
+-- values that are no zero, and then a refusal
+pub to_zero_refused : {S T W : Type 0} (stream : Stream S) (items : W → List T) (zero : T → Type 0) (reading : Reading T) (old mid new : S) (values : List T) (value : T) (why : Error)
+    → All (λ item. ¬ (zero item)) (values ++ value ∷ []) → EachCall stream reading old (values ++ value ∷ []) mid → ReadCall stream (later reading) mid (Err why) new
+    → ReadCall {T = W} stream (to_zero items zero reading) old (Err why) new
+to_zero_refused {S} {T} {W} stream items zero reading old mid new values value why some each one = record {
+  words = told_zero_refused items zero reading.reads (stream.left old) (stream.left mid) values value why (stream.left new) some each.words one.words;
+  bound = omega (arith, each.bound, one.bound);
+  short = short_refusal T W why (stream.at_end new) one.short;
+  ends = tt;
+  counts = counts_refusal T W (stream.faults old) why (stream.faults new) (counts_from {T = T} (stream.faults old) (stream.faults mid) (Err why) (stream.faults new) each.counts one.counts);
+  step = reached_each stream reading (later reading) old mid new (values ++ value ∷ []) (Err why) each one;
+  memory = memory_own W why stream.allocates;
 }

@@ -1,13 +1,13 @@
 -- Where the first word from a place on stands.
-use Rattle.std.proofs.Common.{◌≡◌, ◌≤◌, ◌<◌, ◌+◌, ◌-◌, ℕ, Bool, true, false, not, cond, List, [], ◌∷◌, ◌++◌, length, drop, drop_of_length-le, take, take_all, get_or, refl, sym, ◌∙◌, ap, subst, arith, max, Some, None, slice_range}
+use Rattle.std.proofs.Common.{◌≡◌, ◌≤◌, ◌<◌, ◌+◌, ◌-◌, ℕ, Bool, true, false, not, List, [], ◌∷◌, ◌++◌, length, drop, drop_of_length-le, take, take_all, get_or, refl, sym, ◌∙◌, ap, subst, arith, None, slice_range}
 use Rattle.std.specs.List.{AllPass, take_while}
 use Rattle.std.specs.Str.{IsUtf8, IsCharBoundary}
-use Rattle.std.proofs.lemmas.Bool.{cond-true, cond-false, not-true, leb-true}
+use Rattle.std.proofs.lemmas.Bool.{cond-true, cond-false, leb-true}
 use Rattle.std.proofs.lemmas.List.{drop-drop, length-append, length-drop, get_or-drop}
 use Rattle.std.proofs.lemmas.List.Sums.{take_while-cons}
 use Rattle.std.proofs.lemmas.Str.{IsUtf8-drop, IsUtf8-past_char, encode_ascii, IsCharBoundary-from_drop, IsCharBoundary-end, IsCharBoundary-before_ascii}
 use Rattle.std.proofs.Math.Seq.{drop-append_seam, take-append_seam}
-use Rattle.whiteread.specs.Words.{words, runs, is_blank, EndsRun}
+use Rattle.whiteread.specs.Words.{words, is_blank, EndsRun}
 use Rattle.whiteread.specs.Found.{FindsWord, NextWord}
 use Rattle.whiteread.specs.WordProofs.{Test, pass-head, pass-tail, pass-cons, pass-nil}
 use Rattle.whiteread.proofs.WordLemmas.{runs-gap, runs-run}

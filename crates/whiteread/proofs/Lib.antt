@@ -1,6 +1,15 @@
+pub mod RenderedLemmas
 pub mod WordLemmas
+pub mod AheadLemmas
 pub mod FoundLemmas
+pub mod ReachLemmas
 pub mod CallLemmas
 pub mod NextLemmas
 pub mod SplitLemmas
 pub mod WhiteLemmas
+pub mod LineLemmas
+pub mod AwaitLemmas
+pub mod ReadLineLemmas
+pub mod InLineLemmas
+pub mod PassingLemmas
+pub mod OneLineLemmas

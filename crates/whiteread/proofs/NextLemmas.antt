@@ -1,8 +1,8 @@
 -- Calls of `next`, one after another.
-use Rattle.std.proofs.Common.{◌≡◌, ◌≤◌, ◌<◌, ℕ, List, [], ◌∷◌, length, drop, max, Option, Some, None, Result, Ok, Err, refl, sym, ◌∙◌, ap, subst, arith}
+use Rattle.std.proofs.Common.{◌≡◌, ◌≤◌, ℕ, List, [], length, Option, Some, None, Ok, refl, ap, arith}
 use Rattle.whiteread.specs.Words.{Words, words}
-use Rattle.whiteread.specs.Stream.{Stream, Answer, NextCall, TakesFirst, LowersAtWord, EndsAtNone, CountsNext, told_stream}
-use Rattle.whiteread.specs.declared.stream.error.Error.{Error}
+use Rattle.whiteread.specs.Stream.{Stream, Answer, NextCall, TakesFirst, told_stream}
+use Rattle.whiteread.specs.Reading.{Reached}
 
 -- a step of a stream whose words are told, by which its first word is taken, is a call of `next`
 pub told_call : {S : Type 0} (left : S → Words) (step : S → Answer → S → Type 0) (old : S) (found : Option (List ℕ)) (new : S)
@@ -33,3 +33,4 @@ pub record Skips {S : Type 0} (stream : Stream S) (old new : S) : Type 0 where
   pub words : SkipsTold (stream.left old) (stream.left new)
   pub bound : stream.bound new ≤ stream.bound old
   pub counts : stream.faults new ≡ stream.faults old
+  pub reached : Reached stream.step old new

@@ -1,5 +1,5 @@
 -- A step of std's `SplitWhitespace` takes the first word.
-use Rattle.std.proofs.Common.{◌≡◌, ◌≤◌, ◌<◌, ◌+◌, ℕ, Bool, true, false, not, cond, ◌&&◌, List, [], ◌∷◌, ◌++◌, length, map, Option, Some, None, Ok, Err, refl, sym, ◌∙◌, ap, subst, arith, append_assoc, length-append}
+use Rattle.std.proofs.Common.{◌≡◌, ◌<◌, ℕ, true, false, not, cond, List, [], ◌∷◌, ◌++◌, length, map, Option, Some, None, Ok, refl, sym, ◌∙◌, ap, subst, arith, append_assoc, length-append}
 use denote.Ref.{Bor}
 use Rattle.std.specs.Char.{is_whitespace, is_not_whitespace}
 use Rattle.std.specs.List.{AllPass}
@@ -9,9 +9,9 @@ use Rattle.std.specs.declared.str.SplitWhitespace.{SplitWhitespace}
 use Rattle.std.specs.Str.Iter.{split_whitespace_rest, split_whitespace_steps}
 use Rattle.std.proofs.lemmas.Bool.{cond-true}
 use Rattle.std.proofs.lemmas.Str.{IsUtf8-from_is_utf8, is_utf8-from_IsUtf8, cons_from_encodes, chars-encodes, encodes-chars, scalars-chars, length-le-encodes}
-use Rattle.whiteread.specs.Words.{Words, white_words, runs, EndsRun}
+use Rattle.whiteread.specs.Words.{white_words, runs, EndsRun}
 use Rattle.whiteread.specs.Stream.{TakesFirst}
-use Rattle.whiteread.specs.White.{white_words_left, WhiteStep, GivesWhite}
+use Rattle.whiteread.specs.White.{GivesWhite}
 use Rattle.whiteread.specs.WordProofs.{pass-nil, pass-cons, all_white, no_word}
 use Rattle.whiteread.proofs.WordLemmas.{runs-gap, runs-run}
 

@@ -1,10 +1,10 @@
 -- Runs of a list: past a gap, at a run, and none where all is blank.
-use Rattle.std.proofs.Common.{◌≡◌, ◌≤◌, ◌<◌, ◌+◌, ℕ, suc, zero, Bool, true, false, not, cond, List, [], ◌∷◌, ◌++◌, length, drop, take, refl, sym, ◌∙◌, ap, subst, arith, append_assoc}
+use Rattle.std.proofs.Common.{◌≡◌, ◌≤◌, ◌<◌, ℕ, suc, zero, true, false, not, List, [], ◌∷◌, ◌++◌, length, refl, sym, ◌∙◌, ap, subst, arith}
 use Rattle.std.specs.Prelude.{filter}
 use Rattle.std.specs.List.{AllPass}
 use Rattle.std.proofs.lemmas.Bool.{cond-false, not-true}
 use Rattle.whiteread.specs.WordProofs.{Test, pass-head, pass-tail, pass-cons, pass-nil, pieces-blank, runs-blank, runs-none}
-use Rattle.whiteread.specs.Words.{Words, words, runs, pieces, onto_first, is_blank, is_filled, EndsRun, AreLongestRuns}
+use Rattle.whiteread.specs.Words.{Words, runs, pieces, onto_first, is_filled, EndsRun, AreLongestRuns}
 
 abbrev not-blank : Test → Test
 not-blank blank x = not (blank x)

@@ -5,7 +5,7 @@ use Rattle.whiteread.specs.declared.stream.error.Error.TheVariants.{TooShort, Le
 use Rattle.whiteread.specs.declared.stream.error.Progress.TheVariants.{Nothing, Partial}
 use Rattle.whiteread.specs.declared.stream.error.IoFault.TheVariants.{ReadFault, NotUtf8, TooLong, CannotOpen}
 
--- the text of each error
+-- Each error prints this text.
 abbrev pub error_text : Error → List ℕ
 error_text (TooShort Nothing) = codes "not enough input to start parsing a value"
 error_text (TooShort Partial) = codes "not enough input to finish parsing a value"

@@ -1,9 +1,9 @@
 -- Proofs of the laws of streams and readings, which the impls cite.
-use Rattle.std.proofs.Common.{◌≡◌, ◌≢◌, ◌<◌, ◌≤◌, ◌+◌, ℕ, List, [], ◌∷◌, ◌++◌, length, drop, Option, Some, None, Result, Ok, Err, IfOk, IsOk, All, refl, sym, ◌∙◌, ap, subst, inl, inr, arith, append_assoc, length-append, ◌⊎◌}
+use Rattle.std.proofs.Common.{◌≡◌, ◌<◌, ℕ, List, [], ◌∷◌, ◌++◌, length, drop, Some, None, Result, Ok, Err, sym, ◌∙◌, ap, inl, inr, arith, append_assoc, length-append}
 use Rattle.whiteread.specs.Words.{Words}
-use Rattle.whiteread.specs.Stream.{Stream, Answer, IsStream, told_stream}
-use Rattle.whiteread.specs.Reading.{Relation, Reading, IsReading, TakesFront}
-use Rattle.whiteread.specs.Reads.{ReadsWord, one_word, nothing, optional, ReadsOption, ReadsEach, all_values, ReadsAll, unsigned}
+use Rattle.whiteread.specs.Stream.{Answer, IsStream, told_stream}
+use Rattle.whiteread.specs.Reading.{Reading, IsReading}
+use Rattle.whiteread.specs.Reads.{one_word, nothing, optional, ReadsEach, all_values}
 use Rattle.whiteread.specs.Tuples.{around, later, then, pair, triple, quadruple, quintuple, sextuple}
 use Rattle.whiteread.specs.Adapted.{one_skipped, all_skipped, ReadsCount, counted, reads_after, to_zero}
 use Rattle.std.specs.Str.Parse.{ParsesUnsigned}

@@ -1,5 +1,5 @@
 -- std's `SplitWhitespace` as a stream of words.
-use Rattle.std.specs.Prelude.{◌≡◌, ℕ, List, [], ◌∷◌, length, Option, Some, None, Ok, Err, option_copied, if◌then◌else◌, false, ⊤}
+use Rattle.std.specs.Prelude.{ℕ, List, length, Option, Some, None, Ok, Err, if◌then◌else◌, false, ⊤}
 use Rattle.std.specs.Char.{is_not_whitespace}
 use Rattle.std.specs.Str.{NoCharPasses, is_utf8}
 use Rattle.std.specs.Str.Iter.{split_whitespace_rest}
@@ -8,19 +8,20 @@ use denote.Ref.{Bor}
 use Rattle.whiteread.specs.Words.{Words, white_words}
 use Rattle.whiteread.specs.Stream.{Stream, Answer, NextCall, answer_of}
 
--- the words of the text that is left; it is a `str`, and so UTF-8, which std's contracts don't tell
+-- These are the words of the text that is left; it is a `str`, and so UTF-8, which std's contracts don't tell.
 abbrev pub white_words_left : SplitWhitespace → Option Words
 white_words_left s = if is_utf8 (split_whitespace_rest s) then Some (white_words (split_whitespace_rest s)) else None
 
--- only white space is left
+-- Only white space is left.
 abbrev pub IsWhite : SplitWhitespace → Type 0
 IsWhite s = NoCharPasses is_not_whitespace (split_whitespace_rest s)
 
--- a call of `next` is never refused
+-- A call of `next` is never refused.
 abbrev pub WhiteStep : SplitWhitespace → Answer → SplitWhitespace → Type 0
 WhiteStep old (Ok found) new = ⊤
 WhiteStep old (Err why) new = ⊥
 
+-- std's iterator is a stream whose words are those of the text that is left.
 abbrev pub white_stream : Stream SplitWhitespace
 white_stream = record {
   left = white_words_left;
@@ -31,6 +32,6 @@ white_stream = record {
   allocates = false;
 }
 
--- a step of the iterator is a call of `next`
+-- A step of the iterator is a call of `next`.
 abbrev pub GivesWhite : SplitWhitespace → Option (Bor (List ℕ)) → SplitWhitespace → Type 0
 GivesWhite old found new = NextCall white_stream old (answer_of (Ok found)) new

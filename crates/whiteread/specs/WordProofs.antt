@@ -1,19 +1,19 @@
 -- Proofs on runs and on white space that the laws of the impls cite; no contract does.
-use Rattle.std.proofs.Common.{◌≡◌, ◌≤◌, ◌<◌, ◌+◌, ℕ, Bool, true, false, not, cond, List, [], ◌∷◌, ◌++◌, length, map, Option, Some, None, refl, sym, ◌∙◌, ap, subst, arith}
+use Rattle.std.proofs.Common.{◌≡◌, ◌≤◌, ◌+◌, ℕ, Bool, true, false, cond, List, [], ◌∷◌, length, map, Some, None, refl, sym, ◌∙◌, ap, arith}
 use Rattle.std.proofs.lemmas.List.{length-map}
 use Rattle.std.specs.Prelude.{filter}
 use Rattle.std.specs.Char.{is_whitespace, is_not_whitespace}
 use Rattle.std.specs.List.{AllPass}
 use Rattle.std.specs.Str.{NonePass, NoCharPasses, IsUtf8, is_utf8, chars, encode_utf8_all}
-use Rattle.std.proofs.lemmas.Bool.{cond-true, cond-false, not-false}
+use Rattle.std.proofs.lemmas.Bool.{cond-true, not-false}
 use Rattle.std.proofs.lemmas.List.Elements.{All-head, All-tail, All-cons, All-nil}
 use Rattle.std.proofs.lemmas.Str.{IsUtf8-from_is_utf8, chars_from_encodes, encodes-chars, length-le-encodes}
-use Rattle.std.specs.declared.str.SplitWhitespace.{SplitWhitespace}
 use Rattle.std.specs.Str.Iter.{split_whitespace_rest}
 use Rattle.whiteread.specs.Words.{Words, white_words, runs, pieces, onto_first, is_filled}
 use Rattle.whiteread.specs.Stream.{IsStream}
 use Rattle.whiteread.specs.White.{white_stream}
 
+-- A test of a byte or a character answers yes or no.
 abbrev pub Test : Type 0
 Test = ℕ → Bool
 
@@ -55,7 +55,7 @@ runs_onto x [] = omega arith
 runs_onto x ([] ∷ all) = omega arith
 runs_onto x ((y ∷ piece) ∷ all) = omega arith
 
-runs_short : (blank : Test) (xs : List ℕ) → length (runs blank xs) ≤ length xs
+pub runs_short : (blank : Test) (xs : List ℕ) → length (runs blank xs) ≤ length xs
 runs_short blank [] = omega arith
 runs_short blank (x ∷ xs) =
     elim (blank x) as (λ b. length (filter is_filled (cond b ([] ∷ pieces blank xs) (onto_first x (pieces blank xs)))) ≤ length (x ∷ xs)) [

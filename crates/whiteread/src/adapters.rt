@@ -1,5 +1,5 @@
 // Adapters, which read in another way than their contents.
-ghost use Rattle.std.specs.Prelude.{◌≡◌, []};
+ghost use Rattle.std.specs.Prelude.{◌≡◌, [], true, false};
 ghost use Rattle.whiteread.specs.Reading.{ReadCall};
 ghost use Rattle.whiteread.specs.Tuples.{around};
 ghost use Rattle.whiteread.specs.Adapted.{one_skipped, all_skipped, counted, to_zero};
@@ -14,6 +14,8 @@ pub struct Skip;
 
 impl FromStream for Skip {
     const REQUEST_CHEAP_ERROR: bool = false;
+
+    ghost REQUEST_CHEAP_ERROR = { false };
 
     ghost reading = { one_skipped };
 
@@ -32,6 +34,8 @@ pub struct SkipAll;
 impl FromStream for SkipAll {
     const REQUEST_CHEAP_ERROR: bool = false;
 
+    ghost REQUEST_CHEAP_ERROR = { false };
+
     ghost reading = { all_skipped };
 
     ghost is_reading = { all_skipped_front };
@@ -48,6 +52,8 @@ pub struct Lengthed<T>(pub Vec<T>);
 
 impl<T: Eats> FromStream for Lengthed<T> {
     const REQUEST_CHEAP_ERROR: bool = false;
+
+    ghost REQUEST_CHEAP_ERROR = { false };
 
     ghost reading = { counted (λ values. values.0.items) T.reading };
 
@@ -85,6 +91,8 @@ pub struct Zeroed<T>(pub Vec<T>);
 impl<T: Eats + IsZero> FromStream for Zeroed<T> {
     const REQUEST_CHEAP_ERROR: bool = false;
 
+    ghost REQUEST_CHEAP_ERROR = { false };
+
     ghost reading = { to_zero (λ values. values.0.items) T.zero T.reading };
 
     ghost is_reading = { to_zero_front (λ values. values.0.items) T.zero T.reading T.is_reading };
@@ -112,6 +120,8 @@ pub struct WithCheapError<T>(pub T);
 
 impl<T: FromStream> FromStream for WithCheapError<T> {
     const REQUEST_CHEAP_ERROR: bool = true;
+
+    ghost REQUEST_CHEAP_ERROR = { true };
 
     ghost reading = { around (λ value. value.0) T.reading };
 

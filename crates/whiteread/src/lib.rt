@@ -6,22 +6,22 @@ ghost use Rattle.whiteread.specs.Whole.{ReadsWhole};
 
 pub mod adapters;
 pub mod laws;
+pub mod reader;
 pub mod stream;
 
+pub use reader::Reader;
+pub use reader::ends::{parse_file, parse_line, parse_stdin};
+pub use reader::one_line::parse_line_from;
 use std::alloc::Global;
 pub use stream::FromStream;
-use stream::{Error, SplitAsciiWhitespace, StrStream};
+use stream::{SplitAsciiWhitespace, read_whole};
 
 /// Reads a value from the whole text. It answers `Leftovers` where a word is left.
 pub fn parse_string<T: FromStream>(alloc: Global, s: &str) -> stream::Result<T>
     ensures { ReadsWhole T.reading (words s.now) result }
 {
     let mut words = SplitAsciiWhitespace::new(s);
-    let value = T::read(alloc, &mut words)?;
-    if StrStream::next(&mut words)?.is_some() {
-        return Err(Error::Leftovers);
-    }
-    Ok(value)
+    read_whole(alloc, &mut words)
 }
 
 #[cfg(test)]

@@ -1,5 +1,5 @@
 // Streams of words, and the values that are read from them.
-ghost use Rattle.std.specs.Prelude.{◌≡◌, ◌<◌, ◌↔◌, ℕ, List, IsTrue};
+ghost use Rattle.std.specs.Prelude.{◌≡◌, ◌<◌, ◌↔◌, ℕ, List, IsTrue, Bool};
 ghost use Rattle.std.specs.Borrow.{sem};
 ghost use Rattle.std.specs.Io.BufRead.{Rests};
 ghost use Rattle.whiteread.specs.Stream.{Stream, IsStream, NextCall, answer_of};
@@ -11,11 +11,14 @@ mod scalars;
 mod split;
 mod tuples;
 mod white;
+mod whole;
 
 pub use error::{Error, IoFault, Progress, Result};
 pub use split::SplitAsciiWhitespace;
+pub(crate) use split::find_word;
 use std::alloc::Global;
 pub(crate) use tuples::read_later;
+pub(crate) use whole::read_whole;
 
 /// A stream of words. `next` lends the next word, or answers None at the end.
 pub trait StrStream {
@@ -52,6 +55,8 @@ impl StrExt for &str {
 pub trait FromStream: Sized + Drop {
     /// A reader's errors show the line unless the type asks for cheap ones.
     const REQUEST_CHEAP_ERROR: bool;
+
+    ghost REQUEST_CHEAP_ERROR: { Bool };
 
     /// What it reads.
     ghost reading: { Reading Self };

@@ -1,4 +1,5 @@
 // Optional values, and lists that go on to the end.
+ghost use Rattle.std.specs.Prelude.{false};
 ghost use Rattle.whiteread.specs.Reads.{optional, all_values};
 ghost use Rattle.whiteread.specs.ReadingProofs.{optional_front, all_front};
 
@@ -7,6 +8,8 @@ use std::alloc::Global;
 
 impl<T: FromStream> FromStream for Option<T> {
     const REQUEST_CHEAP_ERROR: bool = false;
+
+    ghost REQUEST_CHEAP_ERROR = { false };
 
     ghost reading = { optional T.reading };
 
@@ -23,6 +26,8 @@ impl<T: FromStream> FromStream for Option<T> {
 
 impl<T: Eats> FromStream for Vec<T> {
     const REQUEST_CHEAP_ERROR: bool = false;
+
+    ghost REQUEST_CHEAP_ERROR = { false };
 
     ghost reading = { all_values T.reading };
 

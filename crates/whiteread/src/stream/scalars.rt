@@ -27,6 +27,8 @@ where
 impl FromStream for u8 {
     const REQUEST_CHEAP_ERROR: bool = false;
 
+    ghost REQUEST_CHEAP_ERROR = { false };
+
     ghost reading = { unsigned 8 };
 
     ghost is_reading = { word_front _ };
@@ -50,6 +52,8 @@ impl IsZero for u8 {
 
 impl FromStream for u16 {
     const REQUEST_CHEAP_ERROR: bool = false;
+
+    ghost REQUEST_CHEAP_ERROR = { false };
 
     ghost reading = { unsigned 16 };
 
@@ -75,6 +79,8 @@ impl IsZero for u16 {
 impl FromStream for u32 {
     const REQUEST_CHEAP_ERROR: bool = false;
 
+    ghost REQUEST_CHEAP_ERROR = { false };
+
     ghost reading = { unsigned 32 };
 
     ghost is_reading = { word_front _ };
@@ -98,6 +104,8 @@ impl IsZero for u32 {
 
 impl FromStream for u64 {
     const REQUEST_CHEAP_ERROR: bool = false;
+
+    ghost REQUEST_CHEAP_ERROR = { false };
 
     ghost reading = { unsigned 64 };
 
@@ -123,6 +131,8 @@ impl IsZero for u64 {
 impl FromStream for usize {
     const REQUEST_CHEAP_ERROR: bool = false;
 
+    ghost REQUEST_CHEAP_ERROR = { false };
+
     ghost reading = { unsigned 64 };
 
     ghost is_reading = { word_front _ };
@@ -146,6 +156,8 @@ impl IsZero for usize {
 
 impl FromStream for i8 {
     const REQUEST_CHEAP_ERROR: bool = false;
+
+    ghost REQUEST_CHEAP_ERROR = { false };
 
     ghost reading = { signed w8 };
 
@@ -171,6 +183,8 @@ impl IsZero for i8 {
 impl FromStream for i16 {
     const REQUEST_CHEAP_ERROR: bool = false;
 
+    ghost REQUEST_CHEAP_ERROR = { false };
+
     ghost reading = { signed w16 };
 
     ghost is_reading = { word_front _ };
@@ -194,6 +208,8 @@ impl IsZero for i16 {
 
 impl FromStream for i32 {
     const REQUEST_CHEAP_ERROR: bool = false;
+
+    ghost REQUEST_CHEAP_ERROR = { false };
 
     ghost reading = { signed w32 };
 
@@ -219,6 +235,8 @@ impl IsZero for i32 {
 impl FromStream for i64 {
     const REQUEST_CHEAP_ERROR: bool = false;
 
+    ghost REQUEST_CHEAP_ERROR = { false };
+
     ghost reading = { signed w64 };
 
     ghost is_reading = { word_front _ };
@@ -242,6 +260,8 @@ impl IsZero for i64 {
 
 impl FromStream for isize {
     const REQUEST_CHEAP_ERROR: bool = false;
+
+    ghost REQUEST_CHEAP_ERROR = { false };
 
     ghost reading = { signed w64 };
 
@@ -267,6 +287,8 @@ impl IsZero for isize {
 impl FromStream for bool {
     const REQUEST_CHEAP_ERROR: bool = false;
 
+    ghost REQUEST_CHEAP_ERROR = { false };
+
     ghost reading = { boolean };
 
     ghost is_reading = { word_front _ };
@@ -291,6 +313,8 @@ impl IsZero for bool {
 /// Reads any word.
 impl FromStream for String {
     const REQUEST_CHEAP_ERROR: bool = false;
+
+    ghost REQUEST_CHEAP_ERROR = { false };
 
     ghost reading = { any_word };
 
@@ -323,6 +347,8 @@ impl IsZero for String {
 impl FromStream for char {
     const REQUEST_CHEAP_ERROR: bool = false;
 
+    ghost REQUEST_CHEAP_ERROR = { false };
+
     ghost reading = { character };
 
     ghost is_reading = { word_front _ };
@@ -353,6 +379,8 @@ impl IsZero for char {
 /// Reads nothing.
 impl FromStream for () {
     const REQUEST_CHEAP_ERROR: bool = false;
+
+    ghost REQUEST_CHEAP_ERROR = { false };
 
     ghost reading = { nothing };
 

@@ -41,7 +41,8 @@ impl<'a> SplitAsciiWhitespace<'a> {
 
     /// The number of bytes passed: after a word the word's end.
     pub fn position(&self) -> usize
-        ensures { result ≡ split_position self.now }
+        ensures place { result ≡ split_position self.now }
+        ensures boundary { result ≤ length (split_text self.now) → IsCharBoundary (split_text self.now) result }
     {
         self.position
     }

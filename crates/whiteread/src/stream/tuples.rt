@@ -1,4 +1,5 @@
 // Tuples, member by member.
+ghost use Rattle.std.specs.Prelude.{false};
 ghost use Rattle.whiteread.specs.Reading.{ReadCall};
 ghost use Rattle.whiteread.specs.Tuples.{around, later, pair, triple, quadruple, quintuple, sextuple};
 ghost use Rattle.whiteread.specs.ReadingProofs.{around_front, pair_front, triple_front, quadruple_front, quintuple_front, sextuple_front, eats_pair, eats_triple, eats_quadruple, eats_quintuple, eats_sextuple};
@@ -18,6 +19,8 @@ pub(crate) fn read_later<T: FromStream, I: StrStream>(alloc: Global, it: &mut I)
 
 impl<A: FromStream> FromStream for (A,) {
     const REQUEST_CHEAP_ERROR: bool = false;
+
+    ghost REQUEST_CHEAP_ERROR = { false };
 
     ghost reading = { around (λ one. one.0) A.reading };
 
@@ -42,6 +45,8 @@ impl<A: IsZero> IsZero for (A,) {
 
 impl<A: FromStream, B: FromStream> FromStream for (A, B) {
     const REQUEST_CHEAP_ERROR: bool = false;
+
+    ghost REQUEST_CHEAP_ERROR = { false };
 
     ghost reading = { pair A.reading B.reading };
 
@@ -69,6 +74,8 @@ impl<A: IsZero, B: IsZero> IsZero for (A, B) {
 impl<A: FromStream, B: FromStream, C: FromStream> FromStream for (A, B, C) {
     const REQUEST_CHEAP_ERROR: bool = false;
 
+    ghost REQUEST_CHEAP_ERROR = { false };
+
     ghost reading = { triple A.reading B.reading C.reading };
 
     ghost is_reading = { triple_front A.reading B.reading C.reading A.is_reading B.is_reading C.is_reading };
@@ -94,6 +101,8 @@ impl<A: IsZero, B: IsZero, C: IsZero> IsZero for (A, B, C) {
 
 impl<A: FromStream, B: FromStream, C: FromStream, D: FromStream> FromStream for (A, B, C, D) {
     const REQUEST_CHEAP_ERROR: bool = false;
+
+    ghost REQUEST_CHEAP_ERROR = { false };
 
     ghost reading = { quadruple A.reading B.reading C.reading D.reading };
 
@@ -121,6 +130,8 @@ impl<A: IsZero, B: IsZero, C: IsZero, D: IsZero> IsZero for (A, B, C, D) {
 impl<A: FromStream, B: FromStream, C: FromStream, D: FromStream, E: FromStream> FromStream
     for (A, B, C, D, E) {
     const REQUEST_CHEAP_ERROR: bool = false;
+
+    ghost REQUEST_CHEAP_ERROR = { false };
 
     ghost reading = { quintuple A.reading B.reading C.reading D.reading E.reading };
 
@@ -158,6 +169,8 @@ impl<
     F: FromStream,
 > FromStream for (A, B, C, D, E, F) {
     const REQUEST_CHEAP_ERROR: bool = false;
+
+    ghost REQUEST_CHEAP_ERROR = { false };
 
     ghost reading = { sextuple A.reading B.reading C.reading D.reading E.reading F.reading };
 

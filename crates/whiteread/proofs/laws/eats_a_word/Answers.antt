@@ -1,4 +1,4 @@
-use Rattle.std.proofs.Common.{◌≡◌, ◌++◌, ◌+◌, Ok, ap, length, length-append, arith}
+use Rattle.std.proofs.Common.{Ok, ap, length, length-append, arith}
 use Rattle.whiteread.specs.Words.{Words}
 use Rattle.whiteread.proofs.laws.eats_a_word.Goals as goal
 

@@ -1,5 +1,4 @@
-use Rattle.std.proofs.Common.{◌≤◌, ◌+◌, ◌∙◌, ap, length, arith, subst, not, sym}
-use Rattle.std.specs.List.{take_while}
+use Rattle.std.proofs.Common.{◌+◌, arith}
 use Rattle.whiteread.specs.Words.{is_blank}
 use Rattle.whiteread.proofs.FoundLemmas.{found, none_past, Found, count_from, word_byte}
 use Rattle.whiteread.proofs.stream.split.find_word.Goals as goal

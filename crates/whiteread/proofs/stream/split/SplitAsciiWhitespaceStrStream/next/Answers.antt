@@ -1,5 +1,4 @@
-use Rattle.std.proofs.Common.{refl, Some, None, Ok, option_copied}
-use Rattle.whiteread.specs.Split.{words_left, SplitStep}
+use Rattle.std.proofs.Common.{refl}
 use Rattle.whiteread.proofs.SplitLemmas.{split_call}
 use Rattle.whiteread.proofs.stream.split.SplitAsciiWhitespaceStrStream.next.Goals as goal
 
