@@ -12,6 +12,7 @@ use Rattle.conformance.specs.declared.replay.Tally.{Tally}
 abbrev pub failure_text : ℕ → List ℕ → List ℕ
 failure_text number why = codes "line " ++ decimal number ++ codes ": " ++ why ++ codes "\n"
 
+-- a text is the one for some line that failed, for some reason
 abbrev pub IsFailure : List ℕ → Type 0
 IsFailure text = (number : ℕ) × (why : List ℕ) × (text ≡ failure_text number why)
 
@@ -22,10 +23,11 @@ pub record Told (held held' : Option (List ℕ)) (count : ℕ) : Type 0 where
   pub each : All IsFailure texts
   pub written : Appends held held' (concat texts)
 
--- the counts of the last line; a count of skipped lines stands there only where there are some
+-- the count of skipped lines, told only where there are some
 abbrev pub skipped_text : ℕ → List ℕ
 skipped_text skipped = if skipped == 0 then [] else codes ", " ++ decimal skipped ++ codes " skipped"
 
+-- the last line tells how many lines passed, failed and were skipped
 abbrev pub count_text : Tally → List ℕ
 count_text tally = decimal tally.passed ++ codes " passed, " ++ decimal tally.failed ++ codes " failed" ++ skipped_text tally.skipped ++ codes "\n"
 

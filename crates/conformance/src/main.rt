@@ -5,6 +5,7 @@ mod case;
 mod fault;
 mod formatx_calls;
 mod read_types;
+mod reader_calls;
 mod replay;
 mod scan_fmt_calls;
 mod show;

@@ -7,7 +7,9 @@ ghost use Rattle.conformance.specs.Report.{Told, Report, IsCause, Replays, count
 
 use crate::case::{Case, push_escaped, read_case, undo, undo_texts};
 use crate::fault::Fault;
-use crate::{formatx_calls, scan_fmt_calls, sprintf_calls, strfmt_calls, whiteread_calls};
+use crate::{
+    formatx_calls, reader_calls, scan_fmt_calls, sprintf_calls, strfmt_calls, whiteread_calls,
+};
 use edge_io::{Sink, Source, write_all};
 use std::alloc::Global;
 
@@ -193,18 +195,19 @@ fn unread(alloc: Global, fault: Fault) -> Result<Outcome, Fault> {
     Ok(Outcome::Failed(fault.to_string(alloc)?))
 }
 
-/// Lines that wait: expressions in scan formats, and readers over lines.
+/// Lines that wait: expressions in scan formats.
 fn is_skipped(case: &Case<'_>) -> bool {
     match (case.target.as_bytes(), case.inputs.first()) {
         (b"scan_fmt", Some(format)) => scan_fmt_calls::has_expression(format),
-        (b"whiteread", Some(stream)) => case.call == "read" && *stream == "reader",
-        (b"reader", _) => true,
         _ => false,
     }
 }
 
 /// Makes the call of a line.
 fn answer_of(alloc: Global, case: &Case<'_>) -> Result<Vec<String>, Fault> {
+    if case.target == "reader" {
+        return reader_calls::answer(alloc, case.call, case.inputs.as_slice());
+    }
     let inputs = undo_texts(alloc, case.inputs.as_slice())?;
     let inputs = inputs.as_slice();
     match case.target.as_bytes() {

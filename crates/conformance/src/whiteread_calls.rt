@@ -1,6 +1,7 @@
 // The calls of whiteread over texts.
 use crate::fault::Fault;
 use crate::read_types::{TypedCall, call_at};
+use crate::reader_calls::ReadReader;
 use crate::show::Show;
 use std::alloc::Global;
 use whiteread::stream::{Error, SplitAsciiWhitespace, StrStream};
@@ -18,6 +19,7 @@ pub(crate) fn answer(alloc: Global, call: &str, inputs: &[String]) -> Result<Vec
             match stream.as_bytes() {
                 b"ascii" => call_at(alloc, name.as_str(), &mut ReadAscii { text }),
                 b"std" => call_at(alloc, name.as_str(), &mut ReadWhite { text }),
+                b"reader" => call_at(alloc, name.as_str(), &mut ReadReader { text }),
                 _ => Err(Fault::BadInput),
             }
         }
