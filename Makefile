@@ -9,7 +9,7 @@
 RT ?= rt
 PREFIX ?= /usr/local
 FILE ?= crates/conformance/stdin
-SOURCES := $(wildcard crates.txt crates/*/src/*.rt crates/*/specs/*.antt crates/*/proofs/*.antt crates/*/proofs/*/*.antt crates/*/proofs/*/*/*.antt)
+SOURCES := $(wildcard crates.txt crates/*/src/*.rt crates/*/src/*/*.rt crates/*/specs/*.antt crates/*/proofs/*.antt crates/*/proofs/*/*.antt crates/*/proofs/*/*/*.antt)
 
 .PHONY: all test demo examples conformance faults install clean
 

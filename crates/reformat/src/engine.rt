@@ -58,13 +58,7 @@ fn rewrite_rows<B: Source, K: Sink>(
     'rows: loop {
         send_if_due(reader, output, &mut batch)?;
         match next_row(
-            alloc,
-            source,
-            template,
-            reader,
-            lines,
-            &mut room,
-            &mut batch,
+            alloc, source, template, reader, lines, &mut room, &mut batch,
         ) {
             Ok(true) => lines += 1,
             Ok(false) => return Ok(lines - 4),
