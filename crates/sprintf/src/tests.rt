@@ -27,6 +27,20 @@ fn plain(conversion_type: ConversionType, width: NumericParam) -> ConversionSpec
 }
 
 #[test]
+fn a_text_is_printed_over(rt: HostRuntime) -> std::result::Result<(), Fail> {
+    let alloc = rt.alloc();
+    let elements = parse_format_string(alloc, "%#06x|")?;
+    let mut text = String::from_str(alloc, "old")?;
+    vsprintfp_into(alloc, &mut text, &elements, &[16u8])?;
+    assert_eq!(rt; text.as_str(), "0x0010|");
+    let none: [u8; 0] = [];
+    let answer = vsprintfp_into(alloc, &mut text, &elements, &none);
+    assert_eq!(rt; answer, Err(PrintfError::NotEnoughArgs));
+    assert_eq!(rt; text.as_str(), "");
+    Ok(())
+}
+
+#[test]
 fn formats_are_read(rt: HostRuntime) -> std::result::Result<(), Fail> {
     let alloc = rt.alloc();
     let hex = ConversionSpecifier {
