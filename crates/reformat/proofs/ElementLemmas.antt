@@ -1,5 +1,5 @@
 -- Reading a row element by element, strictly: what each step says of the whole row.
-use Rattle.std.proofs.Common.{length, drop, get_or, zero, suc, ◌≡◌, ◌≢◌, ◌<◌, ◌≤◌, ◌^◌, ◌+◌, ◌++◌, ℕ, List, [], ◌∷◌, Option, Some, None, Result, Ok, Err, All, Bor, MatchOption, sym, ap, subst, refl, ◌∙◌, arith, append_assoc, append-nil, inl, inr, ◌⊎◌}
+use Rattle.std.proofs.Common.{length, drop, get_or, zero, suc, ◌≡◌, ◌≢◌, ◌<◌, ◌^◌, ◌+◌, ◌++◌, ℕ, List, [], ◌∷◌, Option, Some, None, Result, Ok, All, Bor, MatchOption, sym, ap, subst, refl, ◌∙◌, arith, append_assoc, append-nil, inl, inr}
 use Rattle.std.specs.Option.{option_map}
 use Rattle.std.specs.Fmt.{decimal}
 use Rattle.std.proofs.lemmas.Fmt.{decimal_injective}
@@ -12,10 +12,10 @@ use Rattle.sprintf.specs.declared.parser.ConversionType.TheVariants.{PercentSign
 use Rattle.sprintf.specs.declared.parser.FormatElement.{FormatElement}
 use Rattle.sprintf.specs.declared.parser.FormatElement.TheVariants.{Verbatim, Format}
 use Rattle.reformat.specs.Format.{BeginsApart, IsPlain, IsSeparated, IsRow, values_of}
-use Rattle.reformat.specs.Pieces.{Piece, Byte, Number, piece_text, Fit, flat, bytes_onto}
+use Rattle.reformat.specs.Pieces.{Piece, Number, piece_text, Fit, flat, bytes_onto}
 use Rattle.reformat.specs.ElementRead.{Reaches, ReadsTo, Reads, ReadsElement}
 use Rattle.reformat.proofs.UniqueRow.{map_some, one_cut, digits-decimal}
-use Rattle.reformat.proofs.ReadsRow.{Field, past_byte, past_number, reaches_first, reaches_end}
+use Rattle.reformat.proofs.ReadsRow.{Field, past_byte, past_number, reaches_first}
 use Rattle.reformat.proofs.FlatRow.{bytes_text, percent_piece, plain_piece, other_piece, percent_takes, field_takes, then_is, flat_apart, flat_row}
 
 -- literal text

@@ -1,7 +1,6 @@
 -- What a format in the form prints over numbers is the text of its flat pieces.
-use Rattle.std.proofs.Common.{◌≡◌, ◌≢◌, ◌⊎◌, ◌<◌, ◌≤◌, ◌^◌, ◌+◌, ◌-◌, ◌++◌, ℕ, ℤ, pos, List, [], ◌∷◌, Option, Some, None, Result, Ok, Err, All, Bool, true, false, refl, sym, ap, ◌∙◌, subst, inl, inr, arith, length, replicate, codes, append-nil, drop, suc}
+use Rattle.std.proofs.Common.{◌≡◌, ◌≢◌, ◌<◌, ◌^◌, ◌+◌, ◌-◌, ◌++◌, ℕ, pos, List, [], ◌∷◌, Option, Some, Result, Ok, Err, Bool, false, refl, sym, ap, ◌∙◌, subst, inl, inr, arith, length, replicate, append-nil}
 use Rattle.std.specs.Option.{option_map}
-use Rattle.std.specs.List.{AllByRecursion}
 use Rattle.std.specs.Fmt.{decimal}
 use Rattle.std.proofs.lemmas.List.Elements.{recursion_from_All}
 use Rattle.numerals.specs.Numeral.{numeral}
@@ -10,7 +9,7 @@ use Rattle.sprintf.specs.Carried.{unsigned_meaning}
 use Rattle.sprintf.specs.Meaning.{Meaning}
 use Rattle.sprintf.specs.Printed.{printed, take_field, take_field_by, then_by, onto, Taken}
 use Rattle.sprintf.specs.declared.PrintfError.{PrintfError}
-use Rattle.sprintf.specs.declared.PrintfError.TheVariants.{NotEnoughArgs, TooManyArgs}
+use Rattle.sprintf.specs.declared.PrintfError.TheVariants.{NotEnoughArgs}
 use Rattle.sprintf.specs.declared.parser.ConversionSpecifier.{ConversionSpecifier}
 use Rattle.sprintf.specs.declared.parser.ConversionType.{ConversionType}
 use Rattle.sprintf.specs.declared.parser.ConversionType.TheVariants.{DecInt, OctInt, HexIntLower, HexIntUpper, SciFloatLower, SciFloatUpper, DecFloatLower, DecFloatUpper, CompactFloatLower, CompactFloatUpper, Char, String, PercentSign}

@@ -1,21 +1,20 @@
 -- The clauses of the job: from those of what follows a line to those from that line on, and where it ends.
-use Rattle.std.proofs.Common.{◌≡◌, ◌⊎◌, ◌+◌, ◌-◌, ◌<◌, ◌≤◌, ◌++◌, ℕ, Bool, true, false, List, [], ◌∷◌, length, take, sym, ◌∙◌, ap, subst, refl, inl, inr, arith, length-append, append_assoc, append-nil, Option, Some, None, Result, Ok, Err, OnOk, IfOk, IfErr, IfSome, IsErrOf}
+use Rattle.std.proofs.Common.{◌≡◌, ◌+◌, ◌-◌, ◌<◌, ◌≤◌, ◌++◌, ℕ, List, [], ◌∷◌, length, take, sym, ◌∙◌, ap, subst, refl, inl, inr, arith, length-append, append_assoc, append-nil, Option, Some, None, Result, Ok, Err, OnOk, IfOk, IfErr, IfSome, IsErrOf}
 use Rattle.std.proofs.Math.Seq.{take-append-add}
 use Rattle.std.proofs.lemmas.List.{take_all, take-append-le}
 use Rattle.std.specs.Io.KnownBytes.{Appends, Consumes, IsAtEnd}
 use Rattle.std.proofs.KnownBytes.{Appends-trans, Appends-nil}
 use Rattle.edge_io.specs.Ends.{Rises, AppendsFront}
-use Rattle.whiteread.specs.Given.{Gave}
-use Rattle.whiteread.specs.Lines.{lines_of, without_feed, HasNoFeed, IsWhole, IsUnended, IsFirstLine}
-use Rattle.whiteread.specs.LineCall.{TakesLine, Waits, PassesLimit, probe_len}
-use Rattle.whiteread.specs.ReaderState.{reader_source, reader_limit, reader_taken, reader_past, reader_waiting, reader_line}
+use Rattle.whiteread.specs.Lines.{lines_of, without_feed, HasNoFeed, IsFirstLine}
+use Rattle.whiteread.specs.LineCall.{TakesLine, PassesLimit, probe_len}
+use Rattle.whiteread.specs.ReaderState.{reader_source, reader_limit, reader_taken, reader_waiting, reader_line}
 use Rattle.whiteread.specs.declared.reader.Reader.{Reader}
 use Rattle.reformat.specs.declared.error.ReformatError.{ReformatError}
 use Rattle.reformat.specs.declared.error.ReformatError.TheVariants.{NoMemory, ReadFault, WriteFault, TooLong}
 use Rattle.reformat.specs.Reached.{IsEndReached, ended_lines, reached_lines}
 use Rattle.reformat.specs.Reformats.{IsOfLines}
 use Rattle.reformat.specs.NextLine.{IsOpen, Took, Ended, Failed, Passed}
-use Rattle.reformat.specs.Job.{Stage, kinds_next, source_next, dialect_next, template_next, rows_next, number_of, RefusesFrom, AreKeptFrom, Ends, View, view_of, left, Ahead, Grew, GrewSome, Job, Quiet}
+use Rattle.reformat.specs.Job.{Stage, kinds_next, source_next, dialect_next, template_next, rows_next, number_of, RefusesFrom, AreKeptFrom, Ends, View, view_of, left, Grew, GrewSome, Job, Quiet}
 use Rattle.reformat.proofs.LineLemmas.{lines_first, whole_if_closed, reached_first, ended_first, ended_none, reached_all}
 
 -- results

@@ -12,3 +12,4 @@ pub mod RefusalLemmas
 pub mod ReformatLemmas
 pub mod WordLemmas
 pub mod MessageLemmas
+pub mod Faults

@@ -1,11 +1,11 @@
 -- Two refusals with the same message are the same.
-use Rattle.std.proofs.Common.{◌≡◌, ◌≢◌, ◌<◌, ◌^◌, ℕ, List, [], ◌∷◌, ◌++◌, refl, ap, sym, ◌∙◌, arith, codes, decimal, get_or, drop}
+use Rattle.std.proofs.Common.{◌≡◌, ◌<◌, ◌^◌, ℕ, List, [], ◌∷◌, ◌++◌, refl, ap, arith, codes, decimal, get_or}
 use Rattle.std.proofs.lemmas.Fmt.{decimal_injective}
 use Rattle.reformat.specs.declared.error.ReformatError.{ReformatError}
 use Rattle.reformat.specs.declared.error.ReformatError.TheVariants.{Header, SourceFormat, Template, Render, NotARow, NotBuilt, NotUtf8, NoMemory, ReadFault, WriteFault, TooLong}
 use Rattle.reformat.specs.declared.error.RenderFault.TheVariants.{WrongType, TooManyArgs, NotEnoughArgs}
 use Rattle.reformat.specs.declared.error.TemplateFault.TheVariants.{Printf as PrintfTemplate}
-use Rattle.reformat.specs.Message.{message_of, line_message, line_of, MessagesDiffer}
+use Rattle.reformat.specs.Message.{message_of, line_message, line_of}
 use Rattle.reformat.proofs.UniqueRow.{one_cut, digits-decimal}
 
 -- the text after its first five letters

@@ -1,20 +1,15 @@
 -- What a reader's reading of a line says, as the job sees it.
-use Rattle.std.proofs.Common.{◌≡◌, ◌⊎◌, ◌+◌, ◌<◌, ◌≤◌, ◌^◌, ◌++◌, min, ℕ, Bool, true, false, List, [], length, sym, ◌∙◌, ap, subst, refl, inl, inr, arith, length-append, append-nil, Option, Result, Ok, Err}
-use Rattle.std.specs.Prelude.{IsUtf8}
-use Rattle.edge_io.specs.Ends.{Rises}
-use Rattle.whiteread.specs.Given.{Gave}
-use Rattle.whiteread.specs.Lines.{HasNoFeed}
+use Rattle.std.proofs.Common.{◌≡◌, ◌+◌, ◌<◌, ◌≤◌, ◌^◌, min, ℕ, Bool, true, false, List, length, sym, ◌∙◌, ap, subst, arith, length-append, Option, Ok, Err}
 use Rattle.whiteread.specs.Stream.{OneRises}
 use Rattle.whiteread.specs.LineCall.{LineCall, TakesLine}
-use Rattle.whiteread.specs.ReaderState.{reader_source, reader_limit, reader_taken, reader_past, reader_waiting, reader_line, reader_faults}
+use Rattle.whiteread.specs.ReaderState.{reader_source, reader_limit, reader_waiting, reader_line, reader_faults}
 use Rattle.whiteread.specs.declared.reader.Reader.{Reader}
 use Rattle.whiteread.specs.declared.stream.error.Error.{Error}
 use Rattle.whiteread.specs.declared.stream.error.Error.TheVariants.{TooShort, Leftovers, ParseError, IoError, NoMemory as ErrorNoMemory}
 use Rattle.whiteread.specs.declared.stream.error.IoFault.{IoFault}
 use Rattle.whiteread.specs.declared.stream.error.IoFault.TheVariants.{ReadFault as FaultRead, NotUtf8 as FaultUtf8, TooLong as FaultLong, CannotOpen}
 use Rattle.reformat.specs.declared.error.ReformatError.{ReformatError}
-use Rattle.reformat.specs.declared.error.ReformatError.TheVariants.{NotUtf8, NoMemory, ReadFault, TooLong}
-use Rattle.reformat.specs.NextLine.{IsOpen, IsReady, Took, Ended, Failed, Passed, Starved, IsToldAs, NextLine}
+use Rattle.reformat.specs.NextLine.{IsOpen, IsReady, Took, IsToldAs, NextLine}
 use Rattle.reformat.proofs.LineLemmas.{first_some, last_if_open}
 
 one_more : {B : Type 0} (rest : B → Option (List ℕ)) (given : B → ℕ) (before : ℕ) (old new : Reader B) (line : List ℕ) → IsReady rest given before old → TakesLine rest given old new line

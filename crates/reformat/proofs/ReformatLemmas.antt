@@ -1,17 +1,16 @@
 -- The clauses of the rewriting job, from those of the job from its first line on.
-use Rattle.std.proofs.Common.{◌≡◌, ◌⊎◌, ◌+◌, ◌-◌, ◌<◌, ◌≤◌, ◌++◌, ◌↔◌, ℕ, List, [], ◌∷◌, sym, ◌∙◌, ap, subst, refl, inl, inr, length, arith, zero-add, Option, Some, None, Result, Ok, Err, OnOk, IfOk, IfErr, IfSome, IsErrOf}
-use Rattle.std.specs.Io.KnownBytes.{Appends, IsAtEnd}
-use Rattle.edge_io.specs.Ends.{Rises, AppendsFront}
+use Rattle.std.proofs.Common.{◌≡◌, ◌⊎◌, ◌+◌, ◌-◌, ◌<◌, ◌≤◌, ◌++◌, ℕ, List, [], sym, ap, subst, refl, inl, inr, length, arith, zero-add, Option, Some, None, Result, Ok, Err, IfSome, IsErrOf}
+use Rattle.std.specs.Io.KnownBytes.{Appends}
 use Rattle.whiteread.specs.Lines.{lines_of}
 use Rattle.reformat.specs.declared.error.ReformatError.{ReformatError}
 use Rattle.reformat.specs.declared.error.ReformatError.TheVariants.{Header, SourceFormat, Template, Render, NotARow, NotBuilt, NotUtf8, NoMemory, ReadFault, WriteFault, TooLong}
 use Rattle.reformat.specs.Reached.{IsEndReached, ended_lines, reached_lines}
 use Rattle.reformat.specs.Refusal.{Refuses, RefusesLines}
-use Rattle.reformat.specs.Reformats.{Reformats, IsOfLines, StopsEarly, Wrote, WroteSome}
-use Rattle.reformat.specs.Rewrite.{IsRewritten, AreKept}
-use Rattle.reformat.specs.Job.{kinds_next, Ends, ends_of, View, Job, Ahead, Grew}
+use Rattle.reformat.specs.Reformats.{Reformats, IsOfLines, StopsEarly, Wrote}
+use Rattle.reformat.specs.Rewrite.{AreKept}
+use Rattle.reformat.specs.Job.{kinds_next, ends_of, View, Job}
 use Rattle.reformat.proofs.LineLemmas.{reached_all, reached_ended}
-use Rattle.reformat.proofs.JobLemmas.{maps, any_is, no_refusal}
+use Rattle.reformat.proofs.JobLemmas.{maps, any_is}
 use Rattle.reformat.proofs.RefusalLemmas.{lines_one, kept_is_not_refused, kept_is_rewritten, rewritten_is_kept}
 
 -- the view of a reader that has taken nothing

@@ -1,11 +1,11 @@
 -- The lines have one refusal at most, and none where they are rewritten.
-use Rattle.std.proofs.Common.{◌≡◌, ◌≢◌, ◌⊎◌, ◌+◌, ◌≤◌, ℕ, List, [], ◌∷◌, sym, ◌∙◌, ap, subst, refl, inl, inr, All, length, arith, rules, codes, Result, Ok, Err}
+use Rattle.std.proofs.Common.{◌≡◌, ◌≢◌, ◌⊎◌, ◌+◌, ◌≤◌, ℕ, List, [], ◌∷◌, sym, ◌∙◌, ap, subst, refl, inl, inr, length, arith, Ok, Err}
 use Rattle.sprintf.specs.Printed.{printed}
 use Rattle.sprintf.specs.Meaning.{Meaning}
 use Rattle.sprintf.specs.declared.PrintfError.{PrintfError}
 use Rattle.sprintf.specs.declared.PrintfError.TheVariants.{ParseError, WrongType as CauseWrongType, TooManyArgs as CauseTooManyArgs, NotEnoughArgs as CauseNotEnoughArgs, Unknown, NoMemory}
 use Rattle.sprintf.specs.declared.parser.FormatElement.{FormatElement}
-use Rattle.sprintf.specs.Grammar.{IsFormat, IsNoFormat, IsSameElement}
+use Rattle.sprintf.specs.Grammar.{IsFormat, IsSameElement}
 use Rattle.std.specs.List.{AllZip}
 use Rattle.sprintf.specs.declared.parser.ConversionSpecifier.{ConversionSpecifier}
 use Rattle.sprintf.specs.declared.parser.ConversionType.TheVariants.{PercentSign}
@@ -22,7 +22,7 @@ use Rattle.reformat.specs.declared.kind.Dialect.{Dialect}
 use Rattle.reformat.specs.declared.kind.Dialect.TheVariants.{Printf, Strfmt, Formatx}
 use Rattle.whiteread.specs.Lines.{lines_of}
 use Rattle.reformat.specs.Lines.{words_of}
-use Rattle.reformat.specs.Kinds.{NamesKind, NamesU64, AreDialect, dialect_word}
+use Rattle.reformat.specs.Kinds.{dialect_word}
 use Rattle.reformat.specs.Headers.{IsKindsLine, IsSourceLine, IsDialectLine, IsTemplateLine, HasHeaders}
 use Rattle.reformat.specs.Rewrite.{IsTextOf, IsRewrittenAs, IsRewritten, AreKept, AreKeptFromSource, AreKeptFromDialect, AreKeptFromTemplate}
 use Rattle.reformat.specs.Refusal.{RefusesKinds, RefusesSource, RefusesDialect, RefusesTemplate, RefusesRow, RefusesRows, RefusesFromTemplate, RefusesFromDialect, RefusesFromSource, RefusesLines}

@@ -1,5 +1,5 @@
 -- The clauses of the job around the reading of a row.
-use Rattle.std.proofs.Common.{◌≡◌, ◌≢◌, ◌⊎◌, ◌+◌, ◌-◌, ◌<◌, ◌≤◌, ◌++◌, ℕ, Bool, true, false, List, [], ◌∷◌, length, sym, ◌∙◌, ap, subst, refl, inl, inr, arith, length-append, append_assoc, append-nil, Option, Result, Ok, Err}
+use Rattle.std.proofs.Common.{◌≡◌, ◌≢◌, ◌⊎◌, ◌+◌, ◌-◌, ◌<◌, ◌≤◌, ◌++◌, ℕ, true, false, List, [], ◌∷◌, length, sym, ◌∙◌, ap, subst, refl, inl, inr, arith, length-append, append_assoc, Option, Result, Ok, Err}
 use Rattle.std.specs.Str.{IsUtf8}
 use Rattle.std.specs.Io.KnownBytes.{Appends}
 use Rattle.edge_io.specs.Ends.{Rises, AppendsFront}
@@ -9,12 +9,12 @@ use Rattle.whiteread.specs.ReaderState.{reader_source, reader_limit, reader_take
 use Rattle.whiteread.specs.declared.reader.Reader.{Reader}
 use Rattle.reformat.specs.declared.error.ReformatError.{ReformatError}
 use Rattle.reformat.specs.declared.error.ReformatError.TheVariants.{Header, SourceFormat, Template, Render, NotARow, NotBuilt, NotUtf8, NoMemory, ReadFault, WriteFault, TooLong}
-use Rattle.reformat.specs.Refusal.{RefusesRow, RefusesRows}
+use Rattle.reformat.specs.Refusal.{RefusesRow}
 use Rattle.reformat.specs.Refusal.RefusesRow.{not_utf8 as row_not_utf8, no_list, no_text}
 use Rattle.reformat.specs.Reformats.{IsOfLines}
-use Rattle.reformat.specs.Rewrite.{IsRewrittenAs, IsTextOf}
-use Rattle.reformat.specs.NextLine.{IsReady, Took, Ended, Failed, Passed, Starved, NextLine}
-use Rattle.reformat.specs.Job.{rows_next, RefusesFrom, Ends, View, view_of, Job, Quiet, Keeps, RowStep, SentOr, SentIfDue}
+use Rattle.reformat.specs.Rewrite.{IsRewrittenAs}
+use Rattle.reformat.specs.NextLine.{Took, Ended, Failed, Passed, Starved, NextLine}
+use Rattle.reformat.specs.Job.{rows_next, RefusesFrom, Ends, View, view_of, Job, Quiet, RowStep, SentOr, SentIfDue}
 use Rattle.reformat.proofs.LineLemmas.{utf8_whole, no_feed_front, no_feed_nil, first_some}
 use Rattle.reformat.proofs.JobLemmas.{job_line, job_sent, job_done, job_refused, job_failed, job_passed, job_starved, job_unsent}
 

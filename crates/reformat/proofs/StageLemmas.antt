@@ -1,5 +1,5 @@
 -- The clauses of the job around the reading of a header line.
-use Rattle.std.proofs.Common.{◌≡◌, ◌⊎◌, ◌+◌, ◌-◌, ◌<◌, ◌≤◌, ◌++◌, ℕ, Bool, true, false, List, [], ◌∷◌, length, sym, ◌∙◌, ap, subst, refl, inl, inr, arith, Option, Result, Ok, Err}
+use Rattle.std.proofs.Common.{◌≡◌, ◌⊎◌, ◌+◌, ◌≤◌, ℕ, List, [], ◌∷◌, sym, ◌∙◌, subst, refl, inl, inr, Result, Err}
 use Rattle.std.specs.Str.{IsUtf8}
 use Rattle.std.proofs.KnownBytes.{Appends-nil}
 use Rattle.sprintf.specs.declared.parser.FormatElement.{FormatElement}
@@ -10,14 +10,14 @@ use Rattle.reformat.specs.declared.error.ReformatError.{ReformatError}
 use Rattle.reformat.specs.declared.error.ReformatError.TheVariants.{Header, SourceFormat, Template, Render, NotARow, NotBuilt, NotUtf8, NoMemory, ReadFault, WriteFault, TooLong}
 use Rattle.reformat.specs.declared.error.TemplateFault.TheVariants.{Printf as PrintfTemplate}
 use Rattle.reformat.specs.Headers.{IsKindsLine, IsSourceLine, IsDialectLine, IsTemplateLine}
-use Rattle.reformat.specs.Refusal.{RefusesKinds, RefusesSource, RefusesDialect, RefusesTemplate, RefusesFromTemplate, RefusesFromDialect, RefusesFromSource, RefusesLines}
+use Rattle.reformat.specs.Refusal.{RefusesKinds, RefusesSource, RefusesDialect, RefusesTemplate, RefusesFromTemplate, RefusesFromDialect, RefusesFromSource}
 use Rattle.reformat.specs.Refusal.RefusesKinds.{not_utf8 as kinds_not_utf8, no_kind, other_kind}
 use Rattle.reformat.specs.Refusal.RefusesSource.{not_utf8 as source_not_utf8, no_format, other_form}
 use Rattle.reformat.specs.Refusal.RefusesDialect.{not_utf8 as dialect_not_utf8, no_dialect, other_dialect}
 use Rattle.reformat.specs.Refusal.RefusesTemplate.{not_utf8 as template_not_utf8, no_format as no_template}
 use Rattle.reformat.specs.Reformats.{IsOfLines}
-use Rattle.reformat.specs.NextLine.{Took, Ended, Failed, Passed, Starved, NextLine}
-use Rattle.reformat.specs.Job.{Stage, kinds_next, source_next, dialect_next, template_next, rows_next, number_of, RefusesFrom, Ends, view_of, Job, Quiet}
+use Rattle.reformat.specs.NextLine.{Took, Ended, NextLine}
+use Rattle.reformat.specs.Job.{Stage, kinds_next, source_next, dialect_next, template_next, rows_next, number_of, RefusesFrom, Ends, view_of, Job}
 use Rattle.reformat.proofs.LineLemmas.{utf8_whole}
 use Rattle.reformat.proofs.JobLemmas.{job_line, job_refused, job_missing, job_failed, job_passed, job_starved}
 use Rattle.reformat.proofs.RowLemmas.{quiet_took, quiet_starved}

@@ -5,7 +5,7 @@ use Rattle.sprintf.specs.declared.PrintfError.TheVariants.{ParseError, WrongType
 use Rattle.reformat.specs.declared.error.RenderFault.{RenderFault}
 use Rattle.reformat.specs.declared.error.RenderFault.TheVariants.{WrongType, TooManyArgs, NotEnoughArgs}
 
--- the refusal is told under its own name; three of them never come of numbers
+-- The refusal is told under its own name; three of them never come of numbers.
 abbrev pub IsFaultOf : PrintfError → RenderFault → Type 0
 IsFaultOf CauseWrongType fault = fault ≡ WrongType
 IsFaultOf CauseTooManyArgs fault = fault ≡ TooManyArgs
@@ -13,3 +13,7 @@ IsFaultOf CauseNotEnoughArgs fault = fault ≡ NotEnoughArgs
 IsFaultOf ParseError fault = ⊥
 IsFaultOf Unknown fault = ⊥
 IsFaultOf NoMemory fault = ⊥
+
+-- The refusal is one that is told.
+abbrev pub IsToldFault : PrintfError → Type 0
+IsToldFault cause = (fault : RenderFault) × IsFaultOf cause fault

@@ -1,10 +1,8 @@
 -- The format of the rows: a printf format of plain number fields that literal text keeps apart.
-use Rattle.std.specs.Prelude.{◌≡◌, ◌≢◌, ◌<◌, ◌≤◌, ◌⊎◌, ◌+◌, ◌^◌, ℕ, pos, Bool, false, List, [], ◌∷◌, All, map, Ok, Result, ⊤}
+use Rattle.std.specs.Prelude.{◌≡◌, ◌≢◌, ◌<◌, ◌≤◌, ◌⊎◌, ◌+◌, ◌^◌, ℕ, pos, false, List, [], ◌∷◌, All, map, Ok, ⊤}
 use Rattle.sprintf.specs.Carried.{unsigned_meaning}
-use Rattle.sprintf.specs.Grammar.{IsFormat}
 use Rattle.sprintf.specs.Meaning.{Meaning}
 use Rattle.sprintf.specs.Printed.{printed}
-use Rattle.sprintf.specs.declared.PrintfError.{PrintfError}
 use Rattle.sprintf.specs.declared.parser.ConversionSpecifier.{ConversionSpecifier}
 use Rattle.sprintf.specs.declared.parser.ConversionType.{ConversionType}
 use Rattle.sprintf.specs.declared.parser.ConversionType.TheVariants.{DecInt, PercentSign}

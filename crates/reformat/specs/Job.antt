@@ -1,5 +1,5 @@
 -- What the job does from one of its lines on: the stages of the job, and the clauses that each keeps. Only private calls cite it.
-use Rattle.std.specs.Prelude.{◌≡◌, ◌≢◌, ◌<◌, ◌≤◌, ◌⊎◌, ◌+◌, ◌-◌, ℕ, List, [], ◌∷◌, ◌++◌, length, Bool, true, false, Option, Result, Ok, Err, IfSome, IfOk, IfErr, OnOk, IsErrOf}
+use Rattle.std.specs.Prelude.{◌≡◌, ◌<◌, ◌≤◌, ◌⊎◌, ◌+◌, ◌-◌, ℕ, List, [], ◌++◌, length, Bool, true, false, Option, Result, Ok, Err, IfSome, IfOk, IfErr, OnOk, IsErrOf}
 use Rattle.std.specs.Io.KnownBytes.{Appends, IsAtEnd}
 use Rattle.edge_io.specs.Ends.{Rises, AppendsFront}
 use Rattle.sprintf.specs.declared.parser.FormatElement.{FormatElement}
@@ -7,13 +7,13 @@ use Rattle.whiteread.specs.Lines.{lines_of, without_feed, HasNoFeed}
 use Rattle.whiteread.specs.ReaderState.{reader_source, reader_limit, reader_taken, reader_waiting, reader_line, ShowsSame}
 use Rattle.whiteread.specs.declared.reader.Reader.{Reader}
 use Rattle.reformat.specs.declared.error.ReformatError.{ReformatError}
-use Rattle.reformat.specs.declared.error.ReformatError.TheVariants.{Header, SourceFormat, Template, Render, NotARow, NotBuilt, NotUtf8, NoMemory, ReadFault, WriteFault, TooLong}
+use Rattle.reformat.specs.declared.error.ReformatError.TheVariants.{NoMemory, ReadFault, WriteFault, TooLong}
 use Rattle.reformat.specs.Reached.{IsEndReached, ended_lines, reached_lines}
 use Rattle.reformat.specs.Reformats.{IsOfLines}
 use Rattle.reformat.specs.Refusal.{RefusesRow, RefusesRows, RefusesFromTemplate, RefusesFromDialect, RefusesFromSource, RefusesLines}
 use Rattle.reformat.specs.Rewrite.{IsTextOf, AreKept, AreKeptFromSource, AreKeptFromDialect, AreKeptFromTemplate}
 use Rattle.reformat.specs.ElementRead.{AppendsRow}
-use Rattle.reformat.specs.NextLine.{IsOpen, IsReady, Took, Ended, Failed, Passed, Starved}
+use Rattle.reformat.specs.NextLine.{IsOpen, IsReady, Took, Ended, Failed, Passed}
 
 -- which line comes next, and what was learned from those before it
 pub data Stage : Type 0 where

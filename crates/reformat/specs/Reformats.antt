@@ -1,5 +1,5 @@
 -- What a run of the rewriting job says, over a source and a sink before and after it.
-use Rattle.std.specs.Prelude.{◌≡◌, ◌<◌, ◌≤◌, ◌⊎◌, ◌+◌, ◌-◌, ◌↔◌, ℕ, List, ◌++◌, Option, length, take, IfSome, OnOk, IfOk, IfErr, Result, Ok, Err, IsOk, IsErrOf}
+use Rattle.std.specs.Prelude.{◌≡◌, ◌<◌, ◌≤◌, ◌⊎◌, ◌+◌, ◌-◌, ◌↔◌, ℕ, List, ◌++◌, Option, length, IfSome, OnOk, IfOk, IfErr, Result, IsOk, IsErrOf}
 use Rattle.std.specs.Io.KnownBytes.{Appends, IsAtEnd}
 use Rattle.edge_io.specs.Ends.{Rises, AppendsFront}
 use Rattle.reformat.specs.declared.error.ReformatError.{ReformatError}

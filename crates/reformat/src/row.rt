@@ -2,7 +2,7 @@
 ghost use Rattle.std.specs.Prelude.{◌≡◌, ◌⊎◌, ◌<◌, ◌^◌, ◌++◌, ◌∷◌, [], ℕ, List, IfOk, IfErr, IfSome, IfNone, IsTrue, ◌↔◌, ◌≢◌, false, string_bytes, OnOk, length, slice_index};
 ghost use Rattle.std.specs.Fmt.{decimal};
 ghost use Rattle.reformat.specs.declared.error.RenderFault.{RenderFault};
-ghost use Rattle.reformat.specs.Fault.{IsFaultOf};
+ghost use Rattle.reformat.specs.Fault.{IsFaultOf, IsToldFault};
 ghost use Rattle.reformat.specs.Format.{BeginsApart, IsRow, IsSeparated};
 ghost use Rattle.reformat.specs.Rewrite.{IsRewrittenAs};
 ghost use Rattle.reformat.specs.Refusal.{RefusesRow};
@@ -116,9 +116,10 @@ fn read_row(
     Ok(rest.is_empty())
 }
 
-/// The refusal of a line whose numbers the template refuses; what numbers never meet counts as want of memory.
+/// The refusal of a line whose numbers the template refuses, or want of memory.
 fn refusal_of(cause: &PrintfError, number: u64) -> ReformatError
-    ensures { ((fault : RenderFault) × IsFaultOf cause.now fault × (result ≡ ReformatError.Render number fault)) ⊎ (result ≡ ReformatError.NoMemory) }
+    requires { IsToldFault cause.now ⊎ (cause.now ≡ PrintfError.NoMemory) }
+    ensures { ((fault : RenderFault) × IsFaultOf cause.now fault × (result ≡ ReformatError.Render number fault)) ⊎ ((cause.now ≡ PrintfError.NoMemory) × (result ≡ ReformatError.NoMemory)) }
 {
     match fault_of(cause) {
         Some(fault) => ReformatError::Render {

@@ -1,14 +1,12 @@
-use Rattle.std.proofs.Common.{◌≡◌, ◌⊎◌, ◌+◌, ◌∙◌, ap, sym, subst, refl, List, ℕ, Bool, [], true, false, Result, Ok, Err, inl, inr, rules, string_bytes}
-use Rattle.sprintf.specs.declared.parser.FormatElement.{FormatElement}
+use Rattle.std.proofs.Common.{◌≡◌, ◌+◌, sym, subst, refl, List, ℕ, Bool, [], Result, Ok, Err, rules}
 use Rattle.whiteread.specs.Lines.{without_feed}
 use Rattle.whiteread.specs.ReaderState.{reader_source, reader_line}
 use Rattle.reformat.specs.declared.error.ReformatError.{ReformatError}
-use Rattle.reformat.specs.declared.error.ReformatError.TheVariants.{Header, NoMemory}
-use Rattle.reformat.specs.Headers.{IsKindsLine, IsSourceLine, IsDialectLine, IsTemplateLine}
-use Rattle.reformat.specs.Refusal.{RefusesKinds, RefusesSource, RefusesDialect, RefusesTemplate}
+use Rattle.reformat.specs.Headers.{IsDialectLine}
+use Rattle.reformat.specs.Refusal.{RefusesDialect}
 use Rattle.reformat.specs.NextLine.{NextLine, Took, IsReady, Ended}
-use Rattle.reformat.specs.Job.{Job, kinds_next, source_next, dialect_next, template_next, rows_next, view_of, ends_of, Ends}
-use Rattle.reformat.proofs.StageLemmas.{header_refused, header_refused_or_starved, header_starved, header_missing, header_unread, after_dialect}
+use Rattle.reformat.specs.Job.{Job, dialect_next, view_of, ends_of, Ends}
+use Rattle.reformat.proofs.StageLemmas.{header_refused, header_missing, header_unread, after_dialect}
 use Rattle.reformat.proofs.engine.from_dialect.Goals as goal
 
 pub returns-in_err-next_line-clause-job : goal.returns-in_err-next_line-clause-job

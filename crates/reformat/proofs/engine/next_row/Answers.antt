@@ -1,7 +1,7 @@
-use Rattle.std.proofs.Common.{◌≡◌, ap, sym, subst, List, ℕ, Bool, Result, Err, rules}
+use Rattle.std.proofs.Common.{◌≡◌, sym, subst, Bool, Result, Err, rules}
 use Rattle.reformat.specs.declared.error.ReformatError.{ReformatError}
 use Rattle.reformat.specs.Job.{RowStep}
-use Rattle.reformat.proofs.RowLemmas.{row_unread, row_judged}
+use Rattle.reformat.proofs.RowLemmas.{row_unread}
 use Rattle.reformat.proofs.engine.next_row.Goals as goal
 
 pub returns-in_err-next_line-clause-step : goal.returns-in_err-next_line-clause-step

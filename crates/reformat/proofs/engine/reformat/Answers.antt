@@ -1,8 +1,7 @@
-use Rattle.std.proofs.Common.{◌≡◌, ◌∙◌, ◌-◌, ap, sym, subst, refl, ℕ, [], Result, MutBor, rules, arith}
+use Rattle.std.proofs.Common.{◌≡◌, ◌∙◌, ◌-◌, ap, sym, subst, refl, [], MutBor, arith}
 use Rattle.whiteread.specs.ReaderState.{reader_source, reader_limit, reader_taken, reader_waiting, reader_line}
-use Rattle.reformat.specs.declared.error.ReformatError.{ReformatError}
 use Rattle.reformat.specs.Reformats.{Reformats}
-use Rattle.reformat.specs.Job.{Job, View, Ends, ends_of, kinds_next, view_of}
+use Rattle.reformat.specs.Job.{Job, View, ends_of, kinds_next, view_of}
 use Rattle.reformat.proofs.RowLemmas.{view_is}
 use Rattle.reformat.proofs.ReformatLemmas.{first_view, result_is, behind}
 use Rattle.reformat.proofs.engine.reformat.Goals as goal

@@ -1,6 +1,4 @@
-use Rattle.std.proofs.Common.{◌≡◌, ◌≢◌, ◌∙◌, ◌+◌, ◌-◌, ap, sym, subst, List, ℕ, Bool, [], true, false, Result, Ok, Err, rules, arith}
-use Rattle.edge_io.specs.Ends.{AppendsFront}
-use Rattle.sprintf.specs.declared.parser.FormatElement.{FormatElement}
+use Rattle.std.proofs.Common.{◌≡◌, ◌≢◌, ◌∙◌, ◌+◌, ◌-◌, ap, sym, subst, ℕ, Bool, [], true, false, Result, Ok, Err, rules, arith}
 use Rattle.whiteread.specs.ReaderState.{reader_source}
 use Rattle.reformat.specs.declared.error.ReformatError.{ReformatError}
 use Rattle.reformat.specs.declared.error.ReformatError.TheVariants.{NoMemory, WriteFault}

@@ -1,4 +1,4 @@
-use Rattle.std.proofs.Common.{inl, inr, rules}
+use Rattle.std.proofs.Common.{inl, inr}
 use Rattle.reformat.proofs.headers.elements_of.Goals as goal
 
 pub returns-in-Err-ParseError-clause-ok : goal.returns-in-Err-ParseError-clause-ok

@@ -1,4 +1,4 @@
-use Rattle.std.proofs.Common.{rules, refl, ◌≡◌, ◌≢◌}
+use Rattle.std.proofs.Common.{rules, refl, ◌≢◌}
 use Rattle.std.specs.Str.{IsUtf8}
 use Rattle.reformat.specs.declared.kind.Dialect.TheVariants.{Printf, Strfmt, Formatx}
 use Rattle.reformat.specs.Lines.{words_of}

@@ -1,4 +1,4 @@
-use Rattle.std.proofs.Common.{◌≡◌, ◌∙◌, ap, sym, subst, true, false, List, ℕ, refl, rules, All}
+use Rattle.std.proofs.Common.{◌≡◌, true, false, refl, All}
 use Rattle.std.specs.Str.{IsUtf8}
 use Rattle.reformat.specs.Lines.{words_of}
 use Rattle.reformat.specs.Kinds.{NamesKind, NamesU64}

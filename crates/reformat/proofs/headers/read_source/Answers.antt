@@ -1,4 +1,4 @@
-use Rattle.std.proofs.Common.{◌≡◌, inl, refl, rules, List, ℕ, IsTrue, false, true}
+use Rattle.std.proofs.Common.{◌≡◌, inl, refl, rules, IsTrue, false}
 use Rattle.sprintf.specs.Grammar.{IsNoFormat, IsFormat}
 use Rattle.reformat.specs.Format.{IsInForm}
 use Rattle.reformat.specs.Refusal.RefusesSource.{no_format, other_form}

@@ -1,4 +1,4 @@
-use Rattle.std.proofs.Common.{rules, ◌≡◌, Option, None, Some, Bool, true, false, not, IsTrue, MatchOption, All, List, ℕ, sym, ◌∙◌}
+use Rattle.std.proofs.Common.{rules, ◌≡◌, Option, None, Some, true, false, MatchOption, All, List, ℕ}
 use Rattle.std.specs.Option.{is_some}
 use Rattle.reformat.specs.declared.kind.Kind.{Kind}
 use Rattle.reformat.specs.Lines.{words_of}

@@ -1,4 +1,4 @@
-use Rattle.std.proofs.Common.{rules, arith, ap, ◌≡◌, List, ℕ, length}
+use Rattle.std.proofs.Common.{rules, arith, ap, length}
 use Rattle.reformat.specs.Lines.{words_of}
 use Rattle.reformat.specs.Kinds.{NamesU64}
 use Rattle.reformat.proofs.WordLemmas.{all_step}

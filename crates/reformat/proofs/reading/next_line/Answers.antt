@@ -1,5 +1,4 @@
-use Rattle.std.proofs.Common.{◌≡◌, ◌∙◌, ap, sym, subst, true, false, List, ℕ, Err, rules}
-use Rattle.whiteread.specs.LineCall.{LineCall}
+use Rattle.std.proofs.Common.{◌≡◌, sym, subst, true, false}
 use Rattle.whiteread.specs.ReaderState.{reader_line}
 use Rattle.whiteread.specs.declared.stream.error.Error.{Error}
 use Rattle.reformat.specs.NextLine.{IsOpen, IsToldAs}

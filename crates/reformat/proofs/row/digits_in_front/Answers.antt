@@ -1,6 +1,5 @@
-use Rattle.std.proofs.Common.{arith, ◌≡◌, ◌<◌, ◌≤◌, ◌-◌, ◌∙◌, List, ℕ, ◌∷◌, ap, sym, length, take, drop, get_or}
+use Rattle.std.proofs.Common.{arith, ◌≡◌, ◌<◌, ◌-◌, ◌∙◌, List, ℕ, ◌∷◌, ap, sym, length, take, drop, get_or}
 use Rattle.std.proofs.lemmas.List.{take_rest}
-use Rattle.reformat.specs.Format.{BeginsApart}
 use Rattle.reformat.proofs.FirstNumber.{digits_more, apart_from_first, first_and_rest}
 use Rattle.reformat.proofs.row.digits_in_front.Goals as goal
 use Rattle.reformat.proofs.row.digits_in_front.Goals.{in_default, in_default-2, in_default-3}

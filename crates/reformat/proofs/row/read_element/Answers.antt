@@ -1,8 +1,8 @@
-use Rattle.std.proofs.Common.{◌≡◌, ◌≢◌, ◌<◌, ◌^◌, ◌++◌, ◌∙◌, All, List, ℕ, [], ◌∷◌, MatchOption, Option, Bor, ap, sym, subst, true, false, rules}
+use Rattle.std.proofs.Common.{◌≡◌, ◌≢◌, ◌<◌, ◌^◌, ◌++◌, All, List, ℕ, [], ◌∷◌, sym, subst, true, false, rules}
 use Rattle.std.proofs.lemmas.Slice.Eq.{strip_prefix_is}
 use Rattle.std.proofs.lemmas.Bool.Decides.{Decides-eqb}
 use Rattle.sprintf.specs.declared.parser.ConversionType.TheVariants.{PercentSign}
-use Rattle.reformat.proofs.ElementLemmas.{verbatim_element, percent_element, number_element, no_number_element, fits_push}
+use Rattle.reformat.proofs.ElementLemmas.{verbatim_element, number_element, fits_push}
 use Rattle.reformat.proofs.row.read_element.Goals as goal
 
 pub returns-in-Verbatim : goal.returns-in-Verbatim

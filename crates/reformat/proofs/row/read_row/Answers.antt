@@ -1,10 +1,10 @@
-use Rattle.std.proofs.Common.{◌≡◌, ◌<◌, ◌^◌, ◌∙◌, All, List, ℕ, [], ap, sym, subst, length, drop, arith, rules}
+use Rattle.std.proofs.Common.{◌≡◌, ◌<◌, ◌^◌, All, List, ℕ, [], sym, subst, length, drop, arith}
 use Rattle.std.proofs.lemmas.List.{drop_all}
 use Rattle.std.proofs.lemmas.Bool.Decides.{nat_tests}
 use Rattle.sprintf.specs.declared.parser.FormatElement.{FormatElement}
-use Rattle.reformat.specs.Pieces.{Piece, flat}
+use Rattle.reformat.specs.Pieces.{flat}
 use Rattle.reformat.specs.ElementRead.{Reaches, ReadsTo}
-use Rattle.reformat.proofs.ElementLemmas.{row_reaches, row_is, no_row_is, step_none, step_fit, step_forward, step_back, empty_is}
+use Rattle.reformat.proofs.ElementLemmas.{row_reaches, row_is, step_none, step_fit, step_forward, step_back, empty_is}
 use Rattle.reformat.proofs.row.read_row.Goals as goal
 
 pub elements-init : goal.elements-init

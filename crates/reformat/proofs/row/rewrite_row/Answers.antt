@@ -1,10 +1,10 @@
-use Rattle.std.proofs.Common.{◌≡◌, ◌∙◌, inl, inr, rules, List, ℕ, Ok, Err, string_bytes, subst, refl}
+use Rattle.std.proofs.Common.{inl, inr, rules, List, ℕ, string_bytes, subst, refl}
 use Rattle.sprintf.specs.declared.PrintfError.{PrintfError}
 use Rattle.reformat.specs.Fault.{IsFaultOf}
-use Rattle.sprintf.specs.Printed.{printed}
-use Rattle.reformat.specs.Format.{IsRow, values_of}
+use Rattle.reformat.specs.Format.{IsRow}
 use Rattle.reformat.specs.Refusal.RefusesRow.{no_text}
 use Rattle.reformat.proofs.FlatRow.{one_list_of}
+use Rattle.reformat.proofs.Faults.{fault_is_told}
 use Rattle.reformat.proofs.row.rewrite_row.Goals as goal
 
 pub returns-in_ok-push-in-Ok-clause-ok : goal.returns-in_ok-push-in-Ok-clause-ok
@@ -33,5 +33,13 @@ returns-in-Err-clause-err c =
         | inl refused ↦ inl (no_text c.utf8.row numbers row c.in-Err.cause (rw c.deref.ensures.value at refused) told.0 told.1 told.2, refl)
         | inr none ↦ absurd (subst (λ (e : PrintfError). IsFaultOf e told.0) none told.1)
       ]
+      | inr none ↦ inr none.1
+    ]
+
+pub refusal_of-requires : goal.refusal_of-requires
+refusal_of-requires c =
+    let numbers : List ℕ = c.read_row.new.numbers.items in
+    elim c.in-Err.ensures.err [
+      | inl refused ↦ inl (fault_is_told c.args.template.now numbers c.in-Err.cause (rw c.deref.ensures.value at refused))
       | inr none ↦ inr none
     ]
