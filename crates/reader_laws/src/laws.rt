@@ -1,0 +1,15 @@
+// Laws of a reader's values, which no call carries.
+ghost use Rattle.reader_laws.specs.Good.{ReadsGood, MeetsNoFault, GoodWordsDecide};
+
+use edge_io::Source;
+use whiteread::stream::FromStream;
+
+/// Over UTF-8 input within the limit, from a source that doesn't fail, no value's reading answers `IoError`.
+pub fn no_fault_over_good_input<T: FromStream, S: Source>()
+    ensures { MeetsNoFault (ReadsGood S.rest S.given S.faults S.reference T.reading) }
+{}
+
+/// Over such inputs, the same words get the same answer from any two readers, where neither wants memory.
+pub fn words_decide<T: FromStream, A: Source, B: Source>()
+    ensures { GoodWordsDecide T.reading (ReadsGood A.rest A.given A.faults A.reference T.reading) (ReadsGood B.rest B.given B.faults B.reference T.reading) }
+{}

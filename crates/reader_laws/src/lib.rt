@@ -1,0 +1,4 @@
+//! Laws of reading values over good input.
+#![tactic(auto)]
+
+pub mod laws;
