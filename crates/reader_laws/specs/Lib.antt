@@ -1,1 +1,4 @@
 pub mod Good
+pub mod Alike
+pub mod AlikeProofs
+pub mod ListProofs
