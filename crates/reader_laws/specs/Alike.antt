@@ -1,12 +1,12 @@
 -- Values that are alike: equal, wherever they are kept in memory.
-use Rattle.std.specs.Prelude.{◌≡◌, ◌≢◌, List, [], ◌∷◌, Option, Some, None, Result, Ok, Err, String, string_bytes, ⊤}
+use Rattle.std.specs.Prelude.{◌≡◌, ◌≢◌, ◌↔◌, List, [], ◌∷◌, Option, Some, None, Result, Ok, Err, String, string_bytes, ⊤}
 use Rattle.std.specs.Global.{Global}
 use Rattle.whiteread.specs.Words.{Words}
 use Rattle.whiteread.specs.Reading.{Relation}
 use Rattle.whiteread.specs.declared.stream.error.Error.{Error}
 use Rattle.whiteread.specs.declared.stream.error.Error.TheVariants.{NoMemory}
 
--- This says of two values that they are alike.
+-- A likeness says of two values whether they are alike.
 abbrev pub Likeness : Type 0 → Type 1
 Likeness T = T → T → Type 0
 
@@ -30,7 +30,7 @@ AgreeAlike {T} alike first second = (words : Words) (one other : Result T Error)
 abbrev pub same : {T : Type 0} → Likeness T
 same one other = one ≡ other
 
--- A type has a single value.
+-- Any two values are alike, since the type has a single one.
 abbrev pub single : {T : Type 0} → Likeness T
 single one other = ⊤
 
@@ -79,3 +79,7 @@ quintuples_alike a b c d e = parts_alike (λ all. (all.0, all.1, all.2, all.3)) 
 -- The six members are alike.
 abbrev pub sextuples_alike : {A B C D E F : Type 0} → Likeness A → Likeness B → Likeness C → Likeness D → Likeness E → Likeness F → Likeness (A × B × C × D × E × F)
 sextuples_alike a b c d e f = parts_alike (λ all. (all.0, all.1, all.2, all.3, all.4)) (λ all. all.5) (quintuples_alike a b c d e) f
+
+-- Of values that are alike both are zero, or neither is.
+abbrev pub SharesZero : {T : Type 0} → Likeness T → (T → Type 0) → Type 0
+SharesZero {T} alike zero = (one other : T) → alike one other → zero one ↔ zero other

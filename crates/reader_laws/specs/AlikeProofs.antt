@@ -18,12 +18,12 @@ same_refusal : {T : Type 0} (alike : Likeness T) (one other : Result T Error) (w
 same_refusal alike one other why is was =
     subst (λ (o : Result _ Error). AnswersAlike alike o other) (sym is) (subst (λ (o : Result _ Error). AnswersAlike alike (Err why) o) (sym was) refl)
 
--- A rule gives one word values that are alike, or refuses it.
-pub record IsSingle {T : Type 0} (alike : Likeness T) (rule : List ℕ → Result T Error → Type 0) : Type 0 where
+-- A rule gives a word values that are alike, or refuses it, and never both.
+pub record DecidesByWord {T : Type 0} (alike : Likeness T) (rule : List ℕ → Result T Error → Type 0) : Type 0 where
   pub values : (word : List ℕ) (one other : T) → rule word (Ok one) → rule word (Ok other) → alike one other
   pub refusal : (word : List ℕ) (value : T) (why : Error) → rule word (Ok value) → rule word (Err why) → ⊥
 
-pub word_one : {T : Type 0} (alike : Likeness T) (rule : List ℕ → Result T Error → Type 0) → IsSingle alike rule → GivesOne alike (ReadsWord rule)
+pub word_one : {T : Type 0} (alike : Likeness T) (rule : List ℕ → Result T Error → Type 0) → DecidesByWord alike rule → GivesOne alike (ReadsWord rule)
 word_one alike rule single [] one other rest left a b = (same_refusal alike one other _ a.0 b.0, a.1 ∙ sym b.1)
 word_one alike rule single (word ∷ words) (Ok one) (Ok other) rest left a b = (single.values word one other a.0 b.0, a.2 ∙ sym b.2)
 word_one alike rule single (word ∷ words) (Ok one) (Err why) rest left a b = absurd (single.refusal word one why a.0 b.0)

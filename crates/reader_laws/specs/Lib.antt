@@ -2,3 +2,4 @@ pub mod Good
 pub mod Alike
 pub mod AlikeProofs
 pub mod ListProofs
+pub mod ZeroProofs

@@ -12,11 +12,11 @@ use Rattle.reader_laws.specs.AlikeProofs.{moved, later_one, unsigned_one}
 
 -- ---- values, and what ends them
 
-each_moved : {T : Type 0} (reads : Relation T) (mid next : Words) (values : List T) (rest : Words) → mid ≡ next → ReadsEach reads next values rest → ReadsEach reads mid values rest
+pub each_moved : {T : Type 0} (reads : Relation T) (mid next : Words) (values : List T) (rest : Words) → mid ≡ next → ReadsEach reads next values rest → ReadsEach reads mid values rest
 each_moved reads mid next values rest is each = subst (λ (words : Words). ReadsEach reads words values rest) (sym is) each
 
 -- the same words give values that are alike, up to a refusal, which is the same
-each_stopped : {T : Type 0} (alike : Likeness T) (reads : Relation T) → GivesOne alike reads → (words : Words) (ones others : List T) (mid next : Words) (why cause : Error) (rest left : Words)
+pub each_stopped : {T : Type 0} (alike : Likeness T) (reads : Relation T) → GivesOne alike reads → (words : Words) (ones others : List T) (mid next : Words) (why cause : Error) (rest left : Words)
     → ReadsEach reads words ones mid → ReadsEach reads words others next → reads mid (Err why) rest → reads next (Err cause) left → each_alike alike ones others × (why ≡ cause) × (rest ≡ left)
 each_stopped alike reads p words [] [] mid next why cause rest left a b c d =
     let x = p mid (Err why) (Err cause) rest left c (moved reads mid next (Err cause) left (a ∙ sym b) d) in (tt, x.0, x.1)

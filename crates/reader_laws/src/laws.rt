@@ -11,12 +11,14 @@ pub fn no_fault_over_good_input<T: FromStream, S: Source>()
     ensures { MeetsNoFault (ReadsGood S.rest S.given S.faults S.reference T.reading) }
 {}
 
-/// Over such inputs, the same words get the same answer from any two readers, where neither wants memory.
+/// Over such inputs, a reading that gives one answer at most gives the same words the same answer from any two readers,
+/// where neither wants memory.
 pub fn words_decide<T: FromStream, A: Source, B: Source>()
     ensures { GoodWordsDecide T.reading (ReadsGood A.rest A.given A.faults A.reference T.reading) (ReadsGood B.rest B.given B.faults B.reference T.reading) }
 {}
 
-/// Over such inputs, `continue_` of any two readers with the same words left answers alike, where neither wants memory.
+/// Over such inputs, `continue_` of any two readers with the same words left gives values that are alike, or the same
+/// error, where neither wants memory.
 pub fn continue_decided_by_words<T: Alike, A: Source, B: Source>()
     ensures { AgreeAlike T.alike (ReadsGood A.rest A.given A.faults A.reference T.reading) (ReadsGood B.rest B.given B.faults B.reference T.reading) }
 {}
