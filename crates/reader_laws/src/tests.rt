@@ -1,0 +1,14 @@
+// Each law at types that are carried: the check refuses a type that lacks what the law asks for.
+use crate::laws::{continue_decided_by_words, no_fault_over_good_input, words_decide};
+use edge_io::{MemSource, StdinSource};
+use whiteread::adapters::{Lengthed, WithCheapError, Zeroed};
+
+#[test]
+fn laws_hold_of_carried_types(rt: HostRuntime) {
+    let _ = rt;
+    no_fault_over_good_input::<(u8, Option<String>), MemSource>();
+    words_decide::<(i64, bool), MemSource, StdinSource>();
+    continue_decided_by_words::<Vec<(u8, String)>, MemSource, MemSource>();
+    continue_decided_by_words::<(Lengthed<char>, Zeroed<u16>), MemSource, StdinSource>();
+    continue_decided_by_words::<WithCheapError<Option<i32>>, &mut MemSource, MemSource>();
+}
