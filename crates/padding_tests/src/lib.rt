@@ -5,6 +5,7 @@ use padding::{Field, count_chars, front};
 use std::alloc::Global;
 use std::process::Abort;
 use std::test::Fail;
+
 // The field stands after what the text held.
 fn is_laid_out(rt: &impl Abort, alloc: Global, field: Field<'_>, want: &str) -> Result<(), Fail> {
     let mut out = String::new(alloc);
