@@ -14,8 +14,7 @@ use Rattle.sprintf.specs.declared.parser.FormatElement.TheVariants.{Verbatim, Fo
 use Rattle.sprintf.specs.declared.parser.NumericParam.{NumericParam}
 use Rattle.sprintf.specs.declared.parser.NumericParam.TheVariants.{Literal, FromArgument}
 use Rattle.reformat.specs.declared.error.RenderFault.TheVariants.{WrongType, TooManyArgs, NotEnoughArgs}
-use Rattle.reformat.specs.Fault.{IsToldFault}
-use Rattle.reformat.specs.Format.{values_of}
+use Rattle.reformat.specs.Inner.Numbers.{values_of, IsToldFault}
 
 -- a number was taken, or a fault that is told
 abbrev GoodParam : Taken NumericParam → Type 0
