@@ -189,6 +189,3 @@ macro_rules! sprintf {
         $crate::vsprintf($alloc, $fmt, &[$($crate::Arg::from($arg)),+])
     };
 }
-
-#[cfg(test)]
-mod tests;
