@@ -1,6 +1,6 @@
 // The exact limit and one byte more.
-use crate::tests::support::{HEADERS, joined, sink, source};
-use crate::{ReformatError, reformat};
+use crate::support::{HEADERS, joined, sink, source};
+use reformat::{ReformatError, reformat};
 use std::test::Fail;
 
 const TWELVE: &[u8] = b"7\n7\n7\n7\n7\n7\n7\n7\n7\n7\n7\n7\n";

@@ -1,7 +1,7 @@
 // Reads and writes that fail, and lines that aren't UTF-8.
-use crate::tests::support::{HEADERS, joined, sink, source};
-use crate::{ReformatError, reformat};
+use crate::support::{HEADERS, joined, sink, source};
 use edge_io::{MemSink, MemSource};
+use reformat::{ReformatError, reformat};
 use std::test::Fail;
 
 const ROWS: &[u8] = b"7\n8\n";

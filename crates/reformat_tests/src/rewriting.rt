@@ -1,7 +1,7 @@
 // What is written and told for an input, with its words, status, output and message; `^` stands for a line feed.
-use crate::run;
-use crate::tests::support::{run_table, sink, source};
+use crate::support::{run_table, sink, source};
 use edge_io::MemSink;
+use reformat::run;
 use std::test::Fail;
 
 const ROWS: &str = "\

@@ -1,22 +1,22 @@
 // Ends in memory, and the lines of tables.
-use crate::run;
 use edge_io::{MemSink, MemSource};
+use reformat::run;
 use std::alloc::{AllocError, Global};
 use std::process::Abort;
 use std::test::Fail;
 
 /// Headers under which each row is one number; 17 bytes.
-pub(super) const HEADERS: &[u8] = b"u64\n%d\nprintf\n%d\n";
+pub(crate) const HEADERS: &[u8] = b"u64\n%d\nprintf\n%d\n";
 
 /// The bytes in front and then the others.
-pub(super) fn joined(alloc: Global, front: &[u8], rest: &[u8]) -> Result<Vec<u8>, AllocError> {
+pub(crate) fn joined(alloc: Global, front: &[u8], rest: &[u8]) -> Result<Vec<u8>, AllocError> {
     let mut bytes = front.to_vec(alloc)?;
     bytes.extend_from_slice(rest)?;
     Ok(bytes)
 }
 
 /// The bytes of a text in which `^` stands for a line feed.
-pub(super) fn bytes_of(alloc: Global, text: &str) -> Result<Vec<u8>, AllocError> {
+pub(crate) fn bytes_of(alloc: Global, text: &str) -> Result<Vec<u8>, AllocError> {
     let mut bytes = Vec::new(alloc);
     for byte in text.as_bytes() {
         bytes.push(if *byte == b'^' { b'\n' } else { *byte })?;
@@ -24,11 +24,11 @@ pub(super) fn bytes_of(alloc: Global, text: &str) -> Result<Vec<u8>, AllocError>
     Ok(bytes)
 }
 
-pub(super) fn source(alloc: Global, bytes: &[u8], piece: usize) -> Result<MemSource, AllocError> {
+pub(crate) fn source(alloc: Global, bytes: &[u8], piece: usize) -> Result<MemSource, AllocError> {
     Ok(MemSource::new(bytes.to_vec(alloc)?, piece, Vec::new(alloc)))
 }
 
-pub(super) fn sink(alloc: Global, piece: usize) -> Result<MemSink, AllocError> {
+pub(crate) fn sink(alloc: Global, piece: usize) -> Result<MemSink, AllocError> {
     Ok(MemSink::new(vec![in alloc; 0; 200]?, piece, Vec::new(alloc)))
 }
 
@@ -41,7 +41,7 @@ fn words(alloc: Global, text: &str) -> Result<Vec<String>, AllocError> {
 }
 
 /// Runs each line of the table: words, input, status, output and message, with `;` between them.
-pub(super) fn run_table(rt: &impl Abort, alloc: Global, table: &str) -> Result<(), Fail> {
+pub(crate) fn run_table(rt: &impl Abort, alloc: Global, table: &str) -> Result<(), Fail> {
     for line in table.lines() {
         let mut parts = line.split(';');
         let words = words(alloc, parts.next().ok_or("no words")?)?;
