@@ -23,6 +23,3 @@ pub fn parse_string<T: FromStream>(alloc: Global, s: &str) -> stream::Result<T>
     let mut words = SplitAsciiWhitespace::new(s);
     read_whole(alloc, &mut words)
 }
-
-#[cfg(test)]
-mod tests;

@@ -5,14 +5,8 @@ ghost use Rattle.whiteread.specs.Pending.{pending_bytes};
 
 pub(crate) mod ends;
 mod error;
-#[cfg(test)]
-mod error_tests;
-#[cfg(test)]
-mod line_tests;
 pub(crate) mod one_line;
 mod pending;
-#[cfg(test)]
-mod value_tests;
 mod values;
 mod words;
 

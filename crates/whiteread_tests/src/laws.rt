@@ -1,6 +1,6 @@
-// Each law at types that are carried: the check refuses a type that lacks what the law asks for.
-use crate::laws::{continue_decided_by_words, no_fault_over_good_input, words_decide};
+// The laws of readers at types that are carried: the check refuses a type that lacks what a law asks for.
 use edge_io::{MemSource, StdinSource};
+use reader_laws::laws::{continue_decided_by_words, no_fault_over_good_input, words_decide};
 use whiteread::adapters::{Lengthed, WithCheapError, Zeroed};
 
 #[test]
