@@ -1,4 +1,5 @@
 -- What a source supplies.
+pub mod Laws
 use Rattle.std.specs.Prelude.{◌≡◌, ℕ, ◌+◌, List, [], ◌∷◌, length, ◌++◌, Option, Some}
 use Rattle.std.specs.List.{concat}
 use Rattle.std.specs.Io.KnownBytes.{Consumes}
@@ -13,6 +14,10 @@ pub record Supply (S : Type 0) : Type 0 where
   pub faults : S → ℕ
   -- It stands behind this borrow, where it is a `&mut`, so that who lent it knows where it is.
   pub reference : S → ℕ
+
+-- Whoever holds a source has what it supplies, behind a reference of its own.
+abbrev pub borrowed : {R S : Type 0} → (R → S) → (R → ℕ) → Supply S → Supply R
+borrowed here name supply = record { rest = λ r. supply.rest (here r); given = λ r. supply.given (here r); faults = λ r. supply.faults (here r); reference = name }
 
 -- Between these two states a source gave these bytes.
 pub record Gave {S : Type 0} (supply : Supply S) (old new : S) (got : List ℕ) : Type 0 where

@@ -2,7 +2,7 @@
 #![tactic(auto)]
 
 ghost use Rattle.whiteread.specs.Words.{words};
-ghost use Rattle.whiteread.specs.Whole.{ReadsWhole};
+ghost use Rattle.whiteread.specs.Reading.Whole.{ReadsWhole};
 
 pub mod adapters;
 pub mod laws;

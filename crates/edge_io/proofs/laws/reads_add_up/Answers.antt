@@ -1,4 +1,4 @@
-use Rattle.edge_io.proofs.Supplies.{adds_up}
+use Rattle.edge_io.specs.Supply.Laws.{adds_up}
 use Rattle.edge_io.proofs.laws.reads_add_up.Goals as goal
 
 pub returns : goal.returns

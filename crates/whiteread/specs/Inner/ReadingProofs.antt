@@ -3,9 +3,9 @@ use Rattle.std.proofs.Common.{◌≡◌, ◌<◌, ℕ, List, [], ◌∷◌, ◌+
 use Rattle.whiteread.specs.Words.{Words}
 use Rattle.whiteread.specs.Stream.{Answer, IsStream, told_stream}
 use Rattle.whiteread.specs.Reading.{Reading, IsReading}
-use Rattle.whiteread.specs.Reads.{one_word, nothing, optional, ReadsEach, all_values}
-use Rattle.whiteread.specs.Tuples.{around, later, then, pair, triple, quadruple, quintuple, sextuple}
-use Rattle.whiteread.specs.Adapted.{one_skipped, all_skipped, ReadsCount, counted, reads_after, to_zero}
+use Rattle.whiteread.specs.Reading.Reads.{one_word, nothing, optional, ReadsEach, all_values}
+use Rattle.whiteread.specs.Reading.Tuples.{around, later, then, pair, triple, quadruple, quintuple, sextuple}
+use Rattle.whiteread.specs.Reading.Adapted.{one_skipped, all_skipped, ReadsCount, counted, reads_after, to_zero}
 use Rattle.std.specs.Str.Parse.{ParsesUnsigned}
 use Rattle.whiteread.specs.declared.stream.error.Error.{Error}
 

@@ -3,9 +3,10 @@ use Rattle.std.specs.Prelude.{◌≡◌, ℕ, ◌+◌, ◌-◌, List, [], ◌∷
 use Rattle.std.specs.Option.{option_map}
 use Rattle.std.specs.Str.{is_utf8}
 use Rattle.std.specs.Io.KnownBytes.{IsAtEnd}
+use Rattle.edge_io.specs.Supply.{Supply}
 use Rattle.whiteread.specs.Words.{Words, words}
 use Rattle.whiteread.specs.Lines.{lines_of, up_to_last_feed}
-use Rattle.whiteread.specs.Found.{FindsWord}
+use Rattle.whiteread.specs.Words.Found.{FindsWord}
 use Rattle.whiteread.specs.Stream.{Stream, Answer}
 use Rattle.whiteread.specs.ReaderState.{reader_source, reader_limit, reader_taken, reader_past, reader_waiting, reader_line, reader_passed, reader_faults, StaysInLine}
 use Rattle.whiteread.specs.LineCall.{LineCall}
@@ -29,44 +30,44 @@ abbrev pub words_in_line : {B : Type 0} → Reader B → Words
 words_in_line r = words (drop (reader_passed r) (reader_line r))
 
 -- The words left, where the source tells its bytes.
-abbrev pub reader_left : {B : Type 0} → (B → Option (List ℕ)) → Reader B → Option Words
-reader_left rest r = option_map (λ bytes. words_in_line r ++ words_ahead r bytes) (rest (reader_source r))
+abbrev pub reader_left : {B : Type 0} → Supply B → Reader B → Option Words
+reader_left supply r = option_map (λ bytes. words_in_line r ++ words_ahead r bytes) (supply.rest (reader_source r))
 
 -- A number that the words left never pass: the bytes that are not passed and those that may still be taken.
 abbrev pub reader_bound : {B : Type 0} → Reader B → ℕ
 reader_bound r = (length (reader_line r) - reader_passed r) + length (reader_waiting r) + (reader_limit r - reader_taken r)
 
 -- No word is left in the line, no byte waits, and the source is at its end.
-pub record IsAtLast {B : Type 0} (rest : B → Option (List ℕ)) (r : Reader B) : Type 0 where
+pub record IsAtLast {B : Type 0} (supply : Supply B) (r : Reader B) : Type 0 where
   pub line : words_in_line r ≡ []
   pub waiting : reader_waiting r ≡ []
-  pub end : IsAtEnd (rest (reader_source r))
+  pub end : IsAtEnd (supply.rest (reader_source r))
 
 -- Lines were read one after another, each where no word was left in the one before it, and these were the states on the way.
-abbrev pub PassesLines : {B : Type 0} → (B → Option (List ℕ)) → (B → ℕ) → (B → ℕ) → (B → ℕ) → Reader B → List (Reader B) → Reader B → Type 0
-PassesLines rest given faults reference old [] last = last ≡ old
-PassesLines rest given faults reference old (next ∷ more) last = (words_in_line old ≡ []) × LineCall rest given faults reference old (Ok true) next × PassesLines rest given faults reference next more last
+abbrev pub PassesLines : {B : Type 0} → Supply B → Reader B → List (Reader B) → Reader B → Type 0
+PassesLines supply old [] last = last ≡ old
+PassesLines supply old (next ∷ more) last = (words_in_line old ≡ []) × LineCall supply old (Ok true) next × PassesLines supply next more last
 
 -- How a call of `next` ends: with the first word of the line, or, where none is left in it, as the reading of a line ends.
-abbrev pub EndsStep : {B : Type 0} → (B → Option (List ℕ)) → (B → ℕ) → (B → ℕ) → (B → ℕ) → Reader B → Answer → Reader B → Type 0
-EndsStep rest given faults reference last (Ok (Some word)) new = FindsWord (reader_line last) (reader_passed last) word (reader_passed new) × StaysInLine last new
-EndsStep rest given faults reference last (Ok None) new = (words_in_line last ≡ []) × LineCall rest given faults reference last (Ok false) new
-EndsStep rest given faults reference last (Err why) new = (words_in_line last ≡ []) × LineCall rest given faults reference last (Err why) new
+abbrev pub EndsStep : {B : Type 0} → Supply B → Reader B → Answer → Reader B → Type 0
+EndsStep supply last (Ok (Some word)) new = FindsWord (reader_line last) (reader_passed last) word (reader_passed new) × StaysInLine last new
+EndsStep supply last (Ok None) new = (words_in_line last ≡ []) × LineCall supply last (Ok false) new
+EndsStep supply last (Err why) new = (words_in_line last ≡ []) × LineCall supply last (Err why) new
 
 -- A call of `next` reads lines until one has a word, and passes that word.
-pub record ReaderStep {B : Type 0} (rest : B → Option (List ℕ)) (given faults reference : B → ℕ) (old : Reader B) (answer : Answer) (new : Reader B) : Type 0 where
+pub record ReaderStep {B : Type 0} (supply : Supply B) (old : Reader B) (answer : Answer) (new : Reader B) : Type 0 where
   pub states : List (Reader B)
   pub last : Reader B
-  pub passes : PassesLines rest given faults reference old states last
-  pub ends : EndsStep rest given faults reference last answer new
+  pub passes : PassesLines supply old states last
+  pub ends : EndsStep supply last answer new
 
 -- What a reader means as a stream of words.
-abbrev pub reader_stream : {B : Type 0} → (B → Option (List ℕ)) → (B → ℕ) → (B → ℕ) → (B → ℕ) → Stream (Reader B)
-reader_stream rest given faults reference = record {
-  left = reader_left rest;
+abbrev pub reader_stream : {B : Type 0} → Supply B → Stream (Reader B)
+reader_stream supply = record {
+  left = reader_left supply;
   bound = reader_bound;
-  at_end = IsAtLast rest;
-  step = ReaderStep rest given faults reference;
-  faults = reader_faults faults;
+  at_end = IsAtLast supply;
+  step = ReaderStep supply;
+  faults = reader_faults supply;
   allocates = true;
 }

@@ -2,7 +2,7 @@
 use Rattle.std.specs.Prelude.{◌≡◌, ℕ, List, drop, Option, Ok, Err, option_copied}
 use denote.Ref.{Bor}
 use Rattle.whiteread.specs.Words.{Words, words}
-use Rattle.whiteread.specs.Found.{NextWord}
+use Rattle.whiteread.specs.Words.Found.{NextWord}
 use Rattle.whiteread.specs.Stream.{Stream, Answer, told_stream}
 use Rattle.whiteread.specs.declared.stream.split.SplitAsciiWhitespace.{SplitAsciiWhitespace}
 

@@ -1,9 +1,9 @@
 -- What the looks of a reader for a word in its line do.
 use Rattle.std.specs.Prelude.{◌≡◌, ◌≤◌, ◌<◌, ℕ, List, [], length, slice_range, Option, Some, None, Result, Ok, Err, IsCharBoundary, ⊤}
-use Rattle.whiteread.specs.Found.{FindsWord}
+use Rattle.whiteread.specs.Words.Found.{FindsWord}
 use Rattle.whiteread.specs.Stream.{Answer}
 use Rattle.whiteread.specs.ReaderState.{reader_line, reader_passed, StaysInLine}
-use Rattle.whiteread.specs.ReaderWords.{words_in_line}
+use Rattle.whiteread.specs.ReaderState.ReaderWords.{words_in_line}
 use Rattle.whiteread.specs.declared.reader.Reader.{Reader}
 use Rattle.whiteread.specs.declared.stream.error.Error.{Error}
 

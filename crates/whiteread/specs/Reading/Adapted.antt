@@ -2,8 +2,8 @@
 use Rattle.std.specs.Prelude.{◌≡◌, ℕ, ◌<◌, List, [], ◌∷◌, ◌⊎◌, length, drop, true, false, All, Ok, Err, IsOk, ⊤}
 use Rattle.whiteread.specs.Words.{Words}
 use Rattle.whiteread.specs.Reading.{Relation, Reading, one_call, some_calls}
-use Rattle.whiteread.specs.Reads.{ReadsEach, unsigned}
-use Rattle.whiteread.specs.Tuples.{ReadsLater}
+use Rattle.whiteread.specs.Reading.Reads.{ReadsEach, unsigned}
+use Rattle.whiteread.specs.Reading.Tuples.{ReadsLater}
 
 -- What skipping a word reads: one word, if there is one, and no value is refused.
 abbrev pub one_skipped : {T : Type 0} → Reading T

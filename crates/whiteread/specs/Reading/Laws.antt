@@ -23,18 +23,3 @@ TakesAWord {T} reads = (words : Words) (value : T) (rest : Words) → reads word
 -- Some words have one answer at most.
 abbrev pub HasOneAnswer : {T : Type 0} → Relation T → Type 0
 HasOneAnswer {T} reads = (words : Words) (one other : Result T Error) (rest left : Words) → reads words one rest → reads words other left → one ≡ other
-
--- The words give the answer: it is neither a fault of the input nor want of memory.
-abbrev pub IsByWords : {T : Type 0} → Result T Error → Type 0
-IsByWords (Ok value) = ⊤
-IsByWords (Err (TooShort progress)) = ⊤
-IsByWords (Err Leftovers) = ⊤
-IsByWords (Err ParseError) = ⊤
-IsByWords (Err (IoError fault)) = ⊥
-IsByWords (Err NoMemory) = ⊥
-
--- Two streams with the same words left give the same answer, where the words give it and have no other.
-abbrev pub WordsDecide : {R S T : Type 0} → Stream R → Stream S → Reading T → Type 0
-WordsDecide {R} {S} {T} first second reading = HasOneAnswer reading.reads → (words : Words) (r more : R) (s next : S) (one other : Result T Error)
-    → first.left r ≡ Some words → second.left s ≡ Some words → ReadCall first reading r one more → ReadCall second reading s other next
-    → IsByWords one → IsByWords other → one ≡ other

@@ -1,4 +1,4 @@
--- Calls of `next`, one after another, from a stream to another one.
+-- Calls of `next` alone lead from a stream to another one: proved laws, for proofs to cite.
 use Rattle.std.proofs.Common.{◌≡◌, List, [], ◌∷◌, Result, refl, subst}
 use Rattle.whiteread.specs.Stream.{Stream, Answer}
 use Rattle.whiteread.specs.Reading.{Reading, ReadCall, Calls, no_call, one_call, some_calls, StepsBy, Reaches, Reached}

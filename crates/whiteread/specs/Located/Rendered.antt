@@ -4,7 +4,7 @@ use Rattle.std.specs.List.{suffix_len}
 use Rattle.std.specs.Fmt.Cut.{floor_char_boundary}
 use Rattle.whiteread.specs.declared.stream.error.Error.{Error}
 use Rattle.whiteread.specs.declared.stream.error.Error.TheVariants.{TooShort, Leftovers, ParseError, IoError, NoMemory}
-use Rattle.whiteread.specs.ErrorText.{error_text}
+use Rattle.whiteread.specs.Located.ErrorText.{error_text}
 
 -- A byte that ends a line: `\n` or `\r`.
 abbrev pub is_line_end : ℕ → Bool

@@ -1,10 +1,11 @@
 -- What the calls of a reader that read values do.
 use Rattle.std.specs.Prelude.{◌≡◌, ℕ, List, Bool, true, false, Option, Result, Ok, Err, IfOk}
 use denote.Ref.{Bor}
+use Rattle.edge_io.specs.Supply.{Supply}
 use Rattle.whiteread.specs.Reading.{ReadCall}
-use Rattle.whiteread.specs.Reads.{nothing}
-use Rattle.whiteread.specs.Split.{split_text, split_position, split_stream}
-use Rattle.whiteread.specs.Located.{Located, IsLocated}
+use Rattle.whiteread.specs.Reading.Reads.{nothing}
+use Rattle.whiteread.specs.Words.Split.{split_text, split_position, split_stream}
+use Rattle.whiteread.specs.Located.{Located, IsTold}
 use Rattle.whiteread.specs.LineCall.{LineCall}
 use Rattle.whiteread.specs.ReaderState.{reader_line, reader_passed, reader_row, StaysInLine}
 use Rattle.whiteread.specs.declared.reader.Reader.{Reader}
@@ -13,16 +14,11 @@ use Rattle.whiteread.specs.declared.stream.error.Error.{Error}
 use Rattle.whiteread.specs.declared.stream.error.Error.TheVariants.{TooShort}
 use Rattle.whiteread.specs.declared.stream.error.Progress.TheVariants.{Nothing}
 
--- The answer is told as it is, and an error with its place in the reader as the call left it.
-abbrev pub IsTold : {B T : Type 0} → Bool → Result T Error → Reader B → Result T Located → Type 0
-IsTold cheap (Ok value) new result = result ≡ Ok value
-IsTold cheap (Err why) new result = (error : Located) × (result ≡ Err error) × IsLocated why (reader_row new) (reader_passed new) (reader_line new) cheap error
-
--- A call over the words of a reader, whose answer is told.
+-- A call over the words of a reader, whose answer is told, an error with its place in the reader as the call left it.
 pub record TellsCall {B T : Type 0} (call : Reader B → Result T Error → Reader B → Type 0) (cheap : Bool) (old : Reader B) (result : Result T Located) (new : Reader B) : Type 0 where
   pub answer : Result T Error
   pub called : call old answer new
-  pub told : IsTold cheap answer new result
+  pub told : IsTold cheap answer (reader_row new) (reader_passed new) (reader_line new) result
 
 -- A call over the words left in the current line, as a split text of the line has them from the passed bytes on.
 pub record InLine {B T : Type 0} (call : SplitAsciiWhitespace → Result T Error → SplitAsciiWhitespace → Type 0) (old : Reader B) (answer : Result T Error) (new : Reader B) : Type 0 where
@@ -54,10 +50,10 @@ as_nothing (Ok line) = Ok tt
 as_nothing (Err error) = Err error
 
 -- A new line is read, and nothing of its words, and the line is lent.
-pub record LendsLine {B : Type 0} (rest : B → Option (List ℕ)) (given faults reference : B → ℕ) (old : Reader B) (result : Result (Bor (List ℕ)) Located) (new : Reader B) : Type 0 where
-  pub told : TellsCall (OverNewLine (LineCall rest given faults reference) (InLine (ReadCall split_stream nothing))) false old (as_nothing result) new
+pub record LendsLine {B : Type 0} (supply : Supply B) (old : Reader B) (result : Result (Bor (List ℕ)) Located) (new : Reader B) : Type 0 where
+  pub told : TellsCall (OverNewLine (LineCall supply) (InLine (ReadCall split_stream nothing))) false old (as_nothing result) new
   pub lent : IfOk result (λ line. line.now ≡ reader_line new)
 
 -- A new line is read and lent, and the reader stays in it for as long as it is lent.
-abbrev pub LendsNext : {B : Type 0} → (B → Option (List ℕ)) → (B → ℕ) → (B → ℕ) → (B → ℕ) → Reader B → Result (Bor (List ℕ)) Located → Type 0
-LendsNext {B} rest given faults reference old result = (new : Reader B) × LendsLine rest given faults reference old result new
+abbrev pub LendsNext : {B : Type 0} → Supply B → Reader B → Result (Bor (List ℕ)) Located → Type 0
+LendsNext {B} supply old result = (new : Reader B) × LendsLine supply old result new

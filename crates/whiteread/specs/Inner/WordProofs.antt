@@ -11,7 +11,7 @@ use Rattle.std.proofs.lemmas.Str.{IsUtf8-from_is_utf8, chars_from_encodes, encod
 use Rattle.std.specs.Str.Iter.{split_whitespace_rest}
 use Rattle.whiteread.specs.Words.{Words, white_words, runs, pieces, onto_first, is_filled}
 use Rattle.whiteread.specs.Stream.{IsStream}
-use Rattle.whiteread.specs.White.{white_stream}
+use Rattle.whiteread.specs.Words.White.{white_stream}
 
 -- A test of a byte or a character answers yes or no.
 abbrev pub Test : Type 0

@@ -4,12 +4,13 @@ use Rattle.std.specs.Option.{option_map}
 use Rattle.std.specs.Str.{is_utf8}
 use Rattle.std.specs.Io.KnownBytes.{IsAtEnd}
 use Rattle.std.proofs.lemmas.Bool.{leb-true}
-use Rattle.whiteread.specs.Words.{Words, words, is_blank}
-use Rattle.whiteread.specs.Lines.{lines_of, with_first, line_feed, up_to_last_feed, has_feed}
-use Rattle.whiteread.specs.WordProofs.{runs_short}
+use Rattle.edge_io.specs.Supply.{Supply}
+use Rattle.whiteread.specs.Words.{onto_first, Words, words, is_blank}
+use Rattle.whiteread.specs.Lines.{lines_of, line_feed, up_to_last_feed, has_feed}
+use Rattle.whiteread.specs.Inner.WordProofs.{runs_short}
 use Rattle.whiteread.specs.Stream.{IsStream}
 use Rattle.whiteread.specs.ReaderState.{reader_source, reader_limit, reader_taken, reader_past, reader_waiting, reader_line, reader_passed}
-use Rattle.whiteread.specs.ReaderWords.{reader_stream, words_of_lines, whole_within, words_ahead, words_in_line}
+use Rattle.whiteread.specs.ReaderState.ReaderWords.{reader_stream, words_of_lines, whole_within, words_ahead, words_in_line}
 use Rattle.whiteread.specs.declared.reader.Reader.{Reader}
 
 pub words_short : (xs : List ℕ) → length (words xs) ≤ length xs
@@ -29,16 +30,16 @@ words_of_lines_short (line ∷ lines) =
       | false ↦ omega arith
     ]
 
-with_first_total : (byte : ℕ) (pieces : Words) → total (with_first byte pieces) ≤ 1 + total pieces
-with_first_total byte [] = omega arith
-with_first_total byte (piece ∷ pieces) = omega arith
+onto_first_total : (byte : ℕ) (pieces : Words) → total (onto_first byte pieces) ≤ 1 + total pieces
+onto_first_total byte [] = omega arith
+onto_first_total byte (piece ∷ pieces) = omega arith
 
 lines_total : (xs : List ℕ) → total (lines_of xs) ≤ length xs
 lines_total [] = omega arith
 lines_total (x ∷ xs) =
-    elim (x == line_feed) as (λ b. total (cond b ([] ∷ lines_of xs) (with_first x (lines_of xs))) ≤ length (x ∷ xs)) [
+    elim (x == line_feed) as (λ b. total (cond b ([] ∷ lines_of xs) (onto_first x (lines_of xs))) ≤ length (x ∷ xs)) [
       | true ↦ omega (arith, lines_total xs)
-      | false ↦ omega (arith, with_first_total x (lines_of xs), lines_total xs)
+      | false ↦ omega (arith, onto_first_total x (lines_of xs), lines_total xs)
     ]
 
 up_short : (xs : List ℕ) → length (up_to_last_feed xs) ≤ length xs
@@ -92,8 +93,8 @@ end_left r (Some bytes) all line waiting end told =
     let is : words_in_line r ++ words_ahead r bytes ≡ all = let e = told in cc in
     sym is ∙ ap (λ (w : Words). w ++ words_ahead r bytes) line ∙ none_ahead (reader_past r) (reader_limit r - reader_taken r) (reader_waiting r) bytes waiting end
 
-pub reader_is_stream : {B : Type 0} (rest : B → Option (List ℕ)) (given faults reference : B → ℕ) → IsStream (reader_stream rest given faults reference)
-reader_is_stream rest given faults reference = record {
-  within = λ r all told. left_short r (rest (reader_source r)) all told;
-  none_at_end = λ r all end told. end_left r (rest (reader_source r)) all end.line end.waiting end.end told;
+pub reader_is_stream : {B : Type 0} (supply : Supply B) → IsStream (reader_stream supply)
+reader_is_stream supply = record {
+  within = λ r all told. left_short r (supply.rest (reader_source r)) all told;
+  none_at_end = λ r all end told. end_left r (supply.rest (reader_source r)) all end.line end.waiting end.end told;
 }
