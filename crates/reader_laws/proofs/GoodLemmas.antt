@@ -211,15 +211,18 @@ same_count supply old new NotUtf8 kept held = kept.same NotUtf8 (λ e. absurd (c
 same_count supply old new TooLong kept held = kept.same TooLong (λ e. absurd (cc))
 same_count supply old new CannotOpen kept held = refl
 
+abbrev refusal : {T : Type 0} → Located → Result T Error
+refusal error = Err error.error
+
 -- a told answer is by the call, if memory for its text was there
 pub told_inner : {T : Type 0} (cheap : Bool) (answer : Result T Error) (row passed : ℕ) (line : List ℕ) (result : Result T Located)
     → IsTold cheap answer row passed line result → inner_answer result ≢ Err NoMemory → answer ≡ inner_answer result
 told_inner cheap (Ok value) row passed line result told room = sym (ap inner_answer told)
 told_inner {T} cheap (Err why) row passed line result told room =
-    let inner : inner_answer result ≡ Err told.0.error = ap inner_answer told.1 in
-    elim told.2 [
-      | inl is ↦ ap (λ (e : Located). Err {T = T} e.error) (sym is) ∙ sym inner
-      | inr short ↦ absurd (room (inner ∙ ap (λ (e : Located). Err {T = T} e.error) short.1))
+    let inner : inner_answer result ≡ refusal told.0 = ap inner_answer told.1 in
+    elim told.2 as (λ _. Err why ≡ inner_answer result) [
+      | inl is ↦ ap (refusal {T = T}) (sym is) ∙ sym inner
+      | inr short ↦ absurd (room (inner ∙ ap (refusal {T = T}) short.1))
     ]
 
 pub no_fault : {B T : Type 0} (supply : Supply B) (reading : Reading T) (cheap : Bool) → MeetsNoFault (ContinuesGood supply reading cheap)
