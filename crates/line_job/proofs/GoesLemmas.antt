@@ -3,6 +3,7 @@ use Rattle.std.proofs.Common.{◌≡◌, ◌⊎◌, ◌+◌, ◌-◌, ◌<◌, �
 use Rattle.std.specs.Io.KnownBytes.{Appends, IsAtEnd}
 use Rattle.std.proofs.KnownBytes.{Appends-trans, Consumes-trans}
 use Rattle.edge_io.specs.Ends.{Rises, AppendsFront}
+use Rattle.edge_io.specs.Supply.{Supply}
 use Rattle.whiteread.specs.Lines.{lines_of, without_feed, IsFirstLine}
 use Rattle.whiteread.specs.LineCall.{TakesLine}
 use Rattle.whiteread.specs.ReaderState.{reader_source, reader_limit, reader_taken, reader_waiting, reader_line}
@@ -23,9 +24,9 @@ pub record Counts (w0 w1 line given0 given1 room0 room1 : ℕ) : Type 0 where
   pub gave : given1 ≡ given0 + got
   pub room : room0 ≡ got + room1
 
-pub counts : {B : Type 0} (rest : B → Option (List ℕ)) (given faults : B → ℕ) (before : ℕ) (old new : Reader B) (line : List ℕ) → Took rest given faults before old new line → reader_taken new ≤ reader_limit new
-    → Counts (length (reader_waiting old)) (length (reader_waiting new)) (length line) (given (reader_source old)) (given (reader_source new)) (reader_limit old - reader_taken old) (reader_limit new - reader_taken new)
-counts rest given faults before old new line took within = record {
+pub counts : {B : Type 0} (supply : Supply B) (before : ℕ) (old new : Reader B) (line : List ℕ) → Took supply before old new line → reader_taken new ≤ reader_limit new
+    → Counts (length (reader_waiting old)) (length (reader_waiting new)) (length line) (supply.given (reader_source old)) (supply.given (reader_source new)) (reader_limit old - reader_taken old) (reader_limit new - reader_taken new)
+counts supply before old new line took within = record {
   got = length took.takes.got;
   cut = sym (length-append (reader_waiting old) took.takes.got) ∙ ap length took.takes.cut ∙ length-append line (reader_waiting new);
   gave = took.takes.gave.count;
@@ -112,13 +113,13 @@ grew_ended rules before stage next owed line after first new held held' n m keep
 
 -- the clauses from a line on, of those of what follows it
 pub goes_line : {B K Stage Why : Type 0} (ends : Ends B K) (rules : Rules Stage Why) (before : ℕ) (stage next : Stage) (owed first : List ℕ) (old new : Reader B) (source' : B) (output output' : K) (result : Result ℕ (Stop Why)) (line : List ℕ)
-    → Took ends.rest ends.given ends.faults before old new line → (reader_line new ≡ line) ⊎ (first ≡ []) → reader_taken new ≤ reader_limit new → KeepsLine rules stage (before + 1) (without_feed line) first next
+    → Took ends.supply before old new line → (reader_line new ≡ line) ⊎ (first ≡ []) → reader_taken new ≤ reader_limit new → KeepsLine rules stage (before + 1) (without_feed line) first next
     → Goes ends rules (place_of (before + 1) next (owed ++ first)) (view_of new) source' output output' result → Goes ends rules (place_of before stage owed) (view_of old) source' output output' result
 goes_line {Stage = Stage} ends rules before stage next owed first old new source' output output' result line took current within keeps goes =
-    let takes : TakesLine ends.rest ends.given old new line = took.takes in
-    let n = counts ends.rest ends.given ends.faults before old new line took within in
-    let r0 = ends.rest (reader_source old) in
-    let r1 = ends.rest (reader_source new) in
+    let takes : TakesLine ends.supply old new line = took.takes in
+    let n = counts ends.supply before old new line took within in
+    let r0 = ends.supply.rest (reader_source old) in
+    let r1 = ends.supply.rest (reader_source new) in
     let held = ends.held output in
     let held' = ends.held output' in
     let w0 : List ℕ = reader_waiting old in
@@ -126,16 +127,16 @@ goes_line {Stage = Stage} ends rules before stage next owed first old new source
     let l0 : ℕ = length w0 + (reader_limit old - reader_taken old) in
     let l1 : ℕ = length w1 + (reader_limit new - reader_taken new) in
     let reach : l0 ≡ length line + l1 = omega (arith, n.cut, n.room) in
-    let more : ends.given source' ≡ ends.given (reader_source new) + length goes.gave.0 = goes.gave.2 in
-    let seen0 : ℕ = length w0 + (ends.given source' - ends.given (reader_source old)) in
-    let seen1 : ℕ = length w1 + (ends.given source' - ends.given (reader_source new)) in
+    let more : ends.supply.given source' ≡ ends.supply.given (reader_source new) + length goes.gave.0 = goes.gave.2 in
+    let seen0 : ℕ = length w0 + (ends.supply.given source' - ends.supply.given (reader_source old)) in
+    let seen1 : ℕ = length w1 + (ends.supply.given source' - ends.supply.given (reader_source new)) in
     let see : seen0 ≡ length line + seen1 = omega (arith, n.cut, n.gave, more) in
     let here : Place Stage = place_of before stage owed in
     let there : Place Stage = place_of (before + 1) next (owed ++ first) in
     record {
       kept = on_ok result (moves r0 r1 w0 w1 line takes.got
-          (λ bytes. IsAtEnd (ends.rest source') × GrewAll rules there held held' (lines_of bytes))
-          (λ bytes. IsAtEnd (ends.rest source') × GrewAll rules here held held' (lines_of bytes))
+          (λ bytes. IsAtEnd (ends.supply.rest source') × GrewAll rules there held held' (lines_of bytes))
+          (λ bytes. IsAtEnd (ends.supply.rest source') × GrewAll rules here held held' (lines_of bytes))
           takes.gave.bytes takes.cut takes.first takes.unended
           (λ bytes begun h. (h.0, grew_all rules before stage next owed (without_feed line) first held held' (lines_of bytes) (lines_of (line ++ bytes)) keeps (lines_first line bytes begun) h.1))) goes.kept;
       lines = if_ok result _ _ (λ m. moves r0 r1 w0 w1 line takes.got
@@ -153,14 +154,14 @@ goes_line {Stage = Stage} ends rules before stage next owed first old new source
                 (refused_more rules (reaches_end l1 bytes) before stage next (without_feed line) first h.0 (reached_lines l1 bytes) stop keeps h.1)),
             grew_assoc held held' owed first h.0 h.2,
           )) (before_ of_lines)) goes.refused;
-      too_long = λ e. (let h : ends.given source' ≡ ends.given (reader_source new) + (reader_limit new - reader_taken new) + 1 = goes.too_long e in omega (arith, h, n.gave, n.room));
+      too_long = λ e. (let h : ends.supply.given source' ≡ ends.supply.given (reader_source new) + (reader_limit new - reader_taken new) + 1 = goes.too_long e in omega (arith, h, n.gave, n.room));
       within = elim goes.within [
         | inl e ↦ inl e
         | inr h ↦ inr (omega (arith, h, n.gave, n.room))
       ];
       gave = (
         takes.got ++ goes.gave.0,
-        Consumes-trans r0 r1 (ends.rest source') takes.got goes.gave.0 takes.gave.bytes goes.gave.1,
+        Consumes-trans r0 r1 (ends.supply.rest source') takes.got goes.gave.0 takes.gave.bytes goes.gave.1,
         omega (arith, more, takes.gave.count, length-append takes.got goes.gave.0),
       );
       past_limit = λ e. moves r0 r1 w0 w1 line takes.got
@@ -171,7 +172,7 @@ goes_line {Stage = Stage} ends rules before stage next owed first old new source
             omega (arith, h.0, reach, length-append line bytes),
             grew_ended rules before stage next owed line bytes first new held held' l0 l1 keeps begun reach current (goes.more (inr e)) h.1,
           )) (goes.past_limit e);
-      read_fault = λ e. (let h : Rises (ends.faults (reader_source new)) (ends.faults source') = goes.read_fault e in subst (λ (f : ℕ). Rises f (ends.faults source')) took.still h);
+      read_fault = λ e. (let h : Rises (ends.supply.faults (reader_source new)) (ends.supply.faults source') = goes.read_fault e in subst (λ (f : ℕ). Rises f (ends.supply.faults source')) took.still h);
       before_a_read = λ e. moves r0 r1 w0 w1 line takes.got
           (λ bytes. Grew rules there held held' (ended_lines seen1 bytes))
           (λ bytes. Grew rules here held held' (ended_lines seen0 bytes))
@@ -200,7 +201,7 @@ pub goes_sent : {B K Stage Why : Type 0} (ends : Ends B K) (rules : Rules Stage 
     → Appends (ends.held output) (ends.held mid) owed → ends.sink_faults mid ≡ ends.sink_faults output
     → Goes ends rules (place_of before stage []) old source' mid output' result → Goes ends rules (place_of before stage owed) old source' output output' result
 goes_sent ends rules before stage owed old source' output mid output' result sent still goes =
-    let r0 = ends.rest old.source in
+    let r0 = ends.supply.rest old.source in
     let held = ends.held output in
     let held' = ends.held output' in
     let on : (text : List ℕ) → Appends (ends.held mid) held' text → Appends held held' (owed ++ text) =
@@ -216,7 +217,7 @@ goes_sent ends rules before stage owed old source' output mid output' result sen
       gave = goes.gave;
       past_limit = λ e. maps r0 _ _ (λ bytes h. (h.0, grew_on (ended_lines (left old) (old.waiting ++ bytes)) h.1)) (goes.past_limit e);
       read_fault = goes.read_fault;
-      before_a_read = λ e. maps r0 _ _ (λ bytes h. grew_on (ended_lines (length old.waiting + (ends.given source' - ends.given old.source)) (old.waiting ++ bytes)) h) (goes.before_a_read e);
+      before_a_read = λ e. maps r0 _ _ (λ bytes h. grew_on (ended_lines (length old.waiting + (ends.supply.given source' - ends.supply.given old.source)) (old.waiting ++ bytes)) h) (goes.before_a_read e);
       reads = goes.reads;
       write_fault = λ e. subst (λ (f : ℕ). Rises f (ends.sink_faults output')) still (goes.write_fault e);
       writes = elim goes.writes [

@@ -7,6 +7,7 @@ use Rattle.std.proofs.lemmas.Bool.Decides.{nat_tests}
 use Rattle.std.proofs.lemmas.List.{take_all, take-append-le}
 use Rattle.std.proofs.Math.Seq.{take-append-add}
 use Rattle.whiteread.specs.Lines.{lines_of, without_feed, has_feed, up_to_last_feed, HasNoFeed, IsWhole, IsUnended, IsFirstLine}
+use Rattle.whiteread.specs.Lines.Laws.{first_line}
 use Rattle.line_job.specs.Reached.{reaches_end, ended_lines, reached_lines}
 use Rattle.line_job.specs.Inner.NextLine.{IsOpen}
 
@@ -31,14 +32,6 @@ lines_whole [] after h = refl
 lines_whole (b ∷ text) after h =
     let parts = or_false (b == 10) (has_feed text) h in
     rw (parts.0, lines_whole text after parts.1) refl
-
-lines_open : (line : List ℕ) → has_feed line ≡ false → 0 < length line → lines_of line ≡ line ∷ []
-lines_open [] h some = absurd (omega arith)
-lines_open (b ∷ []) h some = let parts = or_false (b == 10) false h in rw parts.0 refl
-lines_open (b ∷ c ∷ line) h some =
-    let parts = or_false (b == 10) (has_feed (c ∷ line)) h in
-    let rest = lines_open (c ∷ line) parts.1 (omega arith) in
-    rw (parts.0, rest) refl
 
 pub without_whole : (text : List ℕ) → without_feed (text ++ 10 ∷ []) ≡ text
 without_whole [] = refl
@@ -79,14 +72,7 @@ up_none (b ∷ bytes) h = ap (λ (t : Bool). cond t (b ∷ up_to_last_feed bytes
 -- a first line
 
 pub lines_first : (line after : List ℕ) → IsFirstLine line after → lines_of (line ++ after) ≡ without_feed line ∷ lines_of after
-lines_first line after (inl whole) =
-    let text : List ℕ = whole.0 in
-    let split : line ++ after ≡ text ++ 10 ∷ after = ap (λ (t : List ℕ). t ++ after) whole.1 ∙ append_assoc text (10 ∷ []) after in
-    ap lines_of split ∙ lines_whole text after (no_feed text whole.2) ∙ ap (λ (t : List ℕ). t ∷ lines_of after) (sym (ap without_feed whole.1 ∙ without_whole text))
-lines_first line after (inr open_) =
-    let plain : has_feed line ≡ false = no_feed line open_.0.1 in
-    let all : line ++ after ≡ line = ap (λ (t : List ℕ). line ++ t) open_.1 ∙ append-nil line in
-    ap lines_of all ∙ lines_open line plain open_.0.0 ∙ ap (λ (t : List ℕ). t ∷ []) (sym (without_open line plain)) ∙ ap (λ (t : List ℕ). without_feed line ∷ lines_of t) (sym open_.1)
+lines_first line after first = (first_line line after first).lines
 
 -- a last line that no line feed ends is open, and a whole one isn't
 pub whole_closed : (line : List ℕ) → IsWhole line → ¬ IsOpen line
@@ -109,11 +95,7 @@ first_some line after (inr open_) = open_.0.0
 
 -- a line that isn't UTF-8 isn't without its line feed
 pub utf8_whole : (line after : List ℕ) → IsFirstLine line after → IsUtf8 (without_feed line) → IsUtf8 line
-utf8_whole line after (inl whole) utf8 =
-    let text : List ℕ = whole.0 in
-    let short : IsUtf8 text = subst IsUtf8 (ap without_feed whole.1 ∙ without_whole text) utf8 in
-    subst IsUtf8 (sym whole.1) (IsUtf8-append text (10 ∷ []) short (IsUtf8-from_ascii (10 ∷ []) (search rules)))
-utf8_whole line after (inr open_) utf8 = subst IsUtf8 (without_open line (no_feed line open_.0.1)) utf8
+utf8_whole line after first utf8 = (first_line line after first).utf8.1 utf8
 
 -- a front of bytes without a line feed has none
 pub no_feed_front : (a b : List ℕ) → HasNoFeed (a ++ b) → HasNoFeed a

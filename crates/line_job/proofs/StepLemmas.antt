@@ -1,10 +1,11 @@
 -- The clauses of a run around a step of its loop.
 use Rattle.std.proofs.Common.{◌≡◌, ◌≢◌, ◌⊎◌, ◌+◌, ◌-◌, ◌<◌, ◌≤◌, ◌++◌, ℕ, Bool, true, false, List, [], ◌∷◌, length, sym, ◌∙◌, ap, subst, refl, inl, inr, arith, length-append, append-nil, Option, Result, Ok, Err}
 use Rattle.std.specs.Str.{IsUtf8}
-use Rattle.std.specs.Io.KnownBytes.{Appends, Consumes}
-use Rattle.std.proofs.KnownBytes.{Consumes-nil}
+use Rattle.std.specs.Io.KnownBytes.{Appends}
 use Rattle.edge_io.specs.Ends.{Rises, AppendsFront}
 use Rattle.edge_io.specs.declared.ends.Failed.{Failed as SinkFailed}
+use Rattle.edge_io.specs.Supply.{Supply, Gave}
+use Rattle.edge_io.specs.Supply.Laws.{gave_none}
 use Rattle.whiteread.specs.Lines.{without_feed, HasNoFeed}
 use Rattle.whiteread.specs.ReaderState.{reader_source, reader_limit, reader_taken, reader_waiting, reader_line, ShowsSame}
 use Rattle.whiteread.specs.declared.reader.Reader.{Reader}
@@ -31,14 +32,14 @@ same_view : {B : Type 0} (old new : Reader B) → ShowsSame old new → view_of 
 same_view old new same = view_is (reader_source old) (reader_source new) (reader_waiting old) (reader_waiting new) (reader_limit old - reader_taken old) (reader_limit new - reader_taken new) (reader_line old) (reader_line new)
     same.stays.source same.stays.waiting (ap (λ (n : ℕ). n - reader_taken new) same.stays.limit ∙ ap (λ (n : ℕ). reader_limit old - n) same.stays.taken) same.stays.line
 
-quiet_same : {B : Type 0} (rest : B → Option (List ℕ)) (given faults : B → ℕ) (old new : Reader B) → ShowsSame old new → Quiet rest given faults old new
-quiet_same rest given faults old new same =
-    let is : given (reader_source new) ≡ given (reader_source old) = ap given same.stays.source in
+quiet_same : {B : Type 0} (supply : Supply B) (old new : Reader B) → ShowsSame old new → Quiet supply old new
+quiet_same {B = B} supply old new same =
+    let is : supply.given (reader_source new) ≡ supply.given (reader_source old) = ap supply.given same.stays.source in
     record {
       got = [];
-      gave = record { bytes = subst (λ (s : Option (List ℕ)). Consumes (rest (reader_source old)) s []) (ap rest (sym same.stays.source)) (Consumes-nil (rest (reader_source old))); count = omega (arith, is) };
+      gave = subst (λ (b : B). Gave supply (reader_source old) b []) (sym same.stays.source) (gave_none supply (reader_source old));
       within = omega (arith, is);
-      still = ap faults same.stays.source;
+      still = ap supply.faults same.stays.source;
     }
 
 -- the batch may have been due
@@ -58,11 +59,11 @@ goes_due {B = B} {K = K} ends rules before stage old new batch batch' source' ou
 pub goes_undue : {B K Stage Why : Type 0} (ends : Ends B K) (rules : Rules Stage Why) (before : ℕ) (stage : Stage) (old new : Reader B) (batch batch' : List ℕ) (output output' : K) (failed : SinkFailed)
     → SentIfDue ends.held ends.sink_faults old new output output' batch batch' (Err failed) → Goes ends rules (place_of before stage batch) (view_of old) (reader_source new) output output' (Err WriteFault)
 goes_undue ends rules before stage old new batch batch' output output' failed sent =
-    exit_unsent ends rules before stage batch old new output output' (quiet_same ends.rest ends.given ends.faults old new sent.0) sent.1.1 sent.1.2
+    exit_unsent ends rules before stage batch old new output output' (quiet_same ends.supply old new sent.0) sent.1.1 sent.1.2
 
 -- a line was taken and kept
 pub goes_step : {B K Stage Why : Type 0} (ends : Ends B K) (rules : Rules Stage Why) (before : ℕ) (stage next : Stage) (old new : Reader B) (batch batch' : List ℕ) (source' : B) (output output' : K) (result : Result ℕ (Stop Why))
-    → reader_taken new ≤ reader_limit new → LineStep ends.rest ends.given ends.faults rules before old new stage next batch batch' (Ok true)
+    → reader_taken new ≤ reader_limit new → LineStep ends.supply rules before old new stage next batch batch' (Ok true)
     → Goes ends rules (place_of (before + 1) next batch') (view_of new) source' output output' result → Goes ends rules (place_of before stage batch) (view_of old) source' output output' result
 goes_step ends rules before stage next old new batch batch' source' output output' result within (line, text, took, keeps, e, current) goes =
     goes_line ends rules before stage next batch text old new source' output output' result line took current within keeps
@@ -86,7 +87,7 @@ grown_front held output output' a b e front = subst (λ (t : List ℕ). AppendsF
 
 -- no line is left
 pub goes_end : {B K Stage Why : Type 0} (ends : Ends B K) (rules : Rules Stage Why) (before : ℕ) (stage next : Stage) (old new : Reader B) (batch mid_batch batch' : List ℕ) (output output' : K) (answer result : Result ℕ (Stop Why))
-    → LineStep ends.rest ends.given ends.faults rules before old new stage next batch mid_batch (Ok false) → EndStep rules before next mid_batch batch' answer → SentBefore ends.held ends.sink_faults output output' batch' answer result
+    → LineStep ends.supply rules before old new stage next batch mid_batch (Ok false) → EndStep rules before next mid_batch batch' answer → SentBefore ends.held ends.sink_faults output output' batch' answer result
     → Goes ends rules (place_of before stage batch) (view_of old) (reader_source new) output output' result
 goes_end {Stage = Stage} {Why = Why} ends rules before stage next old new batch mid_batch batch' output output' (Ok n) result (ended, there, same) (count, (tail, ends_there, e)) (inl (sent, still, is)) =
     let ends_here : rules.ends stage tail = subst (λ (s : Stage). rules.ends s tail) there ends_there in
@@ -117,7 +118,7 @@ goes_end ends rules before stage next old new batch mid_batch batch' output outp
 
 -- a line was refused
 refused_sent : {B K Stage Why : Type 0} (ends : Ends B K) (rules : Rules Stage Why) (before : ℕ) (stage : Stage) (old new : Reader B) (batch batch' : List ℕ) (output output' : K) (stop : Stop Why) (result : Result ℕ (Stop Why))
-    → IsOfLines stop → reader_taken new ≤ reader_limit new → StepRefused ends.rest ends.given ends.faults rules before old new stage stop → batch' ≡ batch → SentBefore ends.held ends.sink_faults output output' batch' (Err stop) result
+    → IsOfLines stop → reader_taken new ≤ reader_limit new → StepRefused ends.supply rules before old new stage stop → batch' ≡ batch → SentBefore ends.held ends.sink_faults output output' batch' (Err stop) result
     → Goes ends rules (place_of before stage batch) (view_of old) (reader_source new) output output' result
 refused_sent ends rules before stage old new batch batch' output output' stop result of_lines within (line, took, bad) same (inl (sent, still, is)) =
     answered ends rules (place_of before stage batch) (view_of old) (reader_source new) output output' result (Err stop) is
@@ -128,21 +129,21 @@ refused_sent ends rules before stage old new batch batch' output output' stop re
 
 -- a step was refused, and what was owed was written before the answer
 pub goes_stopped : {B K Stage Why : Type 0} (ends : Ends B K) (rules : Rules Stage Why) (before : ℕ) (stage next : Stage) (old new : Reader B) (batch0 batch batch' : List ℕ) (output mid output' : K) (stop : Stop Why) (result : Result ℕ (Stop Why))
-    → reader_taken new ≤ reader_limit new → SentOr ends.held ends.sink_faults old output mid batch0 batch → LineStep ends.rest ends.given ends.faults rules before old new stage next batch batch' (Err stop)
+    → reader_taken new ≤ reader_limit new → SentOr ends.held ends.sink_faults old output mid batch0 batch → LineStep ends.supply rules before old new stage next batch batch' (Err stop)
     → SentBefore ends.held ends.sink_faults mid output' batch' (Err stop) result → Goes ends rules (place_of before stage batch) (view_of old) (reader_source new) mid output' result
 goes_stopped ends rules before stage next old new batch0 batch batch' output mid output' ReadFault result within due step (inl (sent, still, is)) =
-    let failed : Failed ends.rest ends.given ends.faults old new = step.0 in
+    let failed : Failed ends.supply old new = step.0 in
     answered ends rules (place_of before stage batch) (view_of old) (reader_source new) mid output' result (Err ReadFault) is
     (goes_sent ends rules before stage batch (view_of old) (reader_source new) mid output' output' (Err ReadFault) (grown ends.held mid output' batch batch' step.1 sent) still (exit_failed ends rules before stage old new output' failed within))
 goes_stopped ends rules before stage next old new batch0 batch batch' output mid output' ReadFault result within due step (inr (unsent, is)) =
-    let failed : Failed ends.rest ends.given ends.faults old new = step.0 in
+    let failed : Failed ends.supply old new = step.0 in
     let none : batch ≡ [] = nothing_owed ends.held ends.sink_faults old output mid batch0 batch due (no_feed_front (reader_waiting old) failed.waits.got (subst HasNoFeed failed.waits.waits failed.no_feed)) in
     absurd (unsent.0 (step.1 ∙ none))
 goes_stopped ends rules before stage next old new batch0 batch batch' output mid output' TooLong result within due step (inl (sent, still, is)) =
     answered ends rules (place_of before stage batch) (view_of old) (reader_source new) mid output' result (Err TooLong) is
     (exit_passed ends rules before stage batch old new mid output' step.0 (grown ends.held mid output' batch batch' step.1 sent) still)
 goes_stopped ends rules before stage next old new batch0 batch batch' output mid output' TooLong result within due step (inr (unsent, is)) =
-    let passed : Passed ends.rest ends.given ends.faults old new = step.0 in
+    let passed : Passed ends.supply old new = step.0 in
     let none : batch ≡ [] = nothing_owed ends.held ends.sink_faults old output mid batch0 batch due (no_feed_front (reader_waiting old) passed.passes.got (subst HasNoFeed passed.passes.waits passed.passes.no_line)) in
     absurd (unsent.0 (step.1 ∙ none))
 goes_stopped ends rules before stage next old new batch0 batch batch' output mid output' NoMemory result within due step (inl (sent, still, is)) =
@@ -159,49 +160,49 @@ goes_stopped ends rules before stage next old new batch0 batch batch' output mid
 
 -- a line was taken, and judged or passed
 
-quiet_of : {B : Type 0} (rest : B → Option (List ℕ)) (given faults : B → ℕ) (before : ℕ) (old new : Reader B) (line : List ℕ) → Took rest given faults before old new line → reader_taken new ≤ reader_limit new → Quiet rest given faults old new
-quiet_of rest given faults before old new line took within =
-    let n = counts rest given faults before old new line took within in
+quiet_of : {B : Type 0} (supply : Supply B) (before : ℕ) (old new : Reader B) (line : List ℕ) → Took supply before old new line → reader_taken new ≤ reader_limit new → Quiet supply old new
+quiet_of supply before old new line took within =
+    let n = counts supply before old new line took within in
     record { got = took.takes.got; gave = took.takes.gave; within = omega (arith, n.gave, n.room); still = took.still }
 
-pub step_passed : {B Stage Why : Type 0} (rest : B → Option (List ℕ)) (given faults : B → ℕ) (rules : Rules Stage Why) (before : ℕ) (old new : Reader B) (stage : Stage) (batch : List ℕ) (line : List ℕ)
-    → Took rest given faults before old new line → rules.judges stage ≡ false → LineStep rest given faults rules before old new stage stage batch batch (Ok true)
-step_passed rest given faults rules before old new stage batch line took passed = (line, [], took, inr (passed, refl, refl), sym (append-nil batch), inr refl)
+pub step_passed : {B Stage Why : Type 0} (supply : Supply B) (rules : Rules Stage Why) (before : ℕ) (old new : Reader B) (stage : Stage) (batch : List ℕ) (line : List ℕ)
+    → Took supply before old new line → rules.judges stage ≡ false → LineStep supply rules before old new stage stage batch batch (Ok true)
+step_passed supply rules before old new stage batch line took passed = (line, [], took, inr (passed, refl, refl), sym (append-nil batch), inr refl)
 
-pub step_judged : {B Stage Why : Type 0} (rest : B → Option (List ℕ)) (given faults : B → ℕ) (rules : Rules Stage Why) (before : ℕ) (old new : Reader B) (stage next : Stage) (batch batch' text : List ℕ) (answer : Result Bool (Stop Why))
-    → Took rest given faults before old new (reader_line new) → reader_taken new ≤ reader_limit new → text ≡ without_feed (reader_line new) → IsUtf8 text → rules.judges stage ≡ true
-    → Judged rules stage (before + 1) text next batch batch' answer → LineStep rest given faults rules before old new stage next batch batch' answer
-step_judged rest given faults rules before old new stage next batch batch' text (Ok true) took within is utf8 judges (found, (owed, kept, e)) =
+pub step_judged : {B Stage Why : Type 0} (supply : Supply B) (rules : Rules Stage Why) (before : ℕ) (old new : Reader B) (stage next : Stage) (batch batch' text : List ℕ) (answer : Result Bool (Stop Why))
+    → Took supply before old new (reader_line new) → reader_taken new ≤ reader_limit new → text ≡ without_feed (reader_line new) → IsUtf8 text → rules.judges stage ≡ true
+    → Judged rules stage (before + 1) text next batch batch' answer → LineStep supply rules before old new stage next batch batch' answer
+step_judged supply rules before old new stage next batch batch' text (Ok true) took within is utf8 judges (found, (owed, kept, e)) =
     let keeps : List ℕ → Type 0 = λ (l : List ℕ). IsUtf8 l × rules.keeps stage (before + 1) l owed next in
     let here = subst keeps is (utf8, kept) in
     (reader_line new, owed, took, inl (judges, here.0, here.1), e, inl refl)
-step_judged rest given faults rules before old new stage next batch batch' text (Ok false) took within is utf8 judges (found, (owed, kept, e)) = absurd (cc)
-step_judged rest given faults rules before old new stage next batch batch' text (Err (Line why)) took within is utf8 judges (bad, e) =
+step_judged supply rules before old new stage next batch batch' text (Ok false) took within is utf8 judges (found, (owed, kept, e)) = absurd (cc)
+step_judged supply rules before old new stage next batch batch' text (Err (Line why)) took within is utf8 judges (bad, e) =
     let refuses : List ℕ → Type 0 = λ (l : List ℕ). IsUtf8 l × rules.refuses stage (before + 1) l why in
     let here = subst refuses is (utf8, bad) in
     ((reader_line new, took, (judges, inr (here.0, (why, here.1, refl)))), e)
-step_judged rest given faults rules before old new stage next batch batch' text (Err NoMemory) took within is utf8 judges e = (quiet_of rest given faults before old new (reader_line new) took within, e)
-step_judged rest given faults rules before old new stage next batch batch' text (Err (NotUtf8 bad)) took within is utf8 judges judged = absurd judged
-step_judged rest given faults rules before old new stage next batch batch' text (Err TooLong) took within is utf8 judges judged = absurd judged
-step_judged rest given faults rules before old new stage next batch batch' text (Err ReadFault) took within is utf8 judges judged = absurd judged
-step_judged rest given faults rules before old new stage next batch batch' text (Err WriteFault) took within is utf8 judges judged = absurd judged
+step_judged supply rules before old new stage next batch batch' text (Err NoMemory) took within is utf8 judges e = (quiet_of supply before old new (reader_line new) took within, e)
+step_judged supply rules before old new stage next batch batch' text (Err (NotUtf8 bad)) took within is utf8 judges judged = absurd judged
+step_judged supply rules before old new stage next batch batch' text (Err TooLong) took within is utf8 judges judged = absurd judged
+step_judged supply rules before old new stage next batch batch' text (Err ReadFault) took within is utf8 judges judged = absurd judged
+step_judged supply rules before old new stage next batch batch' text (Err WriteFault) took within is utf8 judges judged = absurd judged
 
 -- a line that isn't UTF-8
 
-pub not_utf8 : {B : Type 0} (rest : B → Option (List ℕ)) (given faults : B → ℕ) (before number : ℕ) (old new : Reader B) (fault : LineFault) → fault ≡ FaultUtf8 number → NextLine rest given faults before old (Err fault) new
-    → NextLine rest given faults before old (Err (FaultUtf8 number)) new
-not_utf8 rest given faults before number old new fault is next = subst (λ (f : LineFault). NextLine rest given faults before old (Err f) new) is next
+pub not_utf8 : {B : Type 0} (supply : Supply B) (before number : ℕ) (old new : Reader B) (fault : LineFault) → fault ≡ FaultUtf8 number → NextLine supply before old (Err fault) new
+    → NextLine supply before old (Err (FaultUtf8 number)) new
+not_utf8 supply before number old new fault is next = subst (λ (f : LineFault). NextLine supply before old (Err f) new) is next
 
-pub step_not_utf8 : {B Stage Why : Type 0} (rest : B → Option (List ℕ)) (given faults : B → ℕ) (rules : Rules Stage Why) (before number : ℕ) (old new : Reader B) (stage next : Stage) (batch : List ℕ)
-    → NextLine rest given faults before old (Err (FaultUtf8 number)) new → rules.judges stage ≡ true → LineStep rest given faults rules before old new stage next batch batch (Err (NotUtf8 number))
-step_not_utf8 rest given faults rules before number old new stage next batch (line, took, bad, is) judges =
+pub step_not_utf8 : {B Stage Why : Type 0} (supply : Supply B) (rules : Rules Stage Why) (before number : ℕ) (old new : Reader B) (stage next : Stage) (batch : List ℕ)
+    → NextLine supply before old (Err (FaultUtf8 number)) new → rules.judges stage ≡ true → LineStep supply rules before old new stage next batch batch (Err (NotUtf8 number))
+step_not_utf8 supply rules before number old new stage next batch (line, took, bad, is) judges =
     let whole : ¬ IsUtf8 (without_feed line) = λ utf8. bad (utf8_whole line (reader_waiting new) took.takes.first utf8) in
     ((line, took, (judges, inl (whole, ap NotUtf8 is))), refl)
 
 -- each line takes bytes
-pub left_falls : {B : Type 0} (rest : B → Option (List ℕ)) (given faults : B → ℕ) (before : ℕ) (first old new : Reader B) (line : List ℕ)
-    → ShowsSame first old → Took rest given faults before old new line → reader_taken new ≤ reader_limit new → left (view_of new) < left (view_of first)
-left_falls rest given faults before first old new line same took within =
+pub left_falls : {B : Type 0} (supply : Supply B) (before : ℕ) (first old new : Reader B) (line : List ℕ)
+    → ShowsSame first old → Took supply before old new line → reader_taken new ≤ reader_limit new → left (view_of new) < left (view_of first)
+left_falls supply before first old new line same took within =
     let cut : length (reader_waiting old) + length took.takes.got ≡ length line + length (reader_waiting new) =
     sym (length-append (reader_waiting old) took.takes.got) ∙ ap length took.takes.cut ∙ length-append line (reader_waiting new) in
     omega (arith, cut, took.takes.taken, took.limit, within, same.stays.taken, same.stays.limit, ap length same.stays.waiting, first_some line (reader_waiting new) took.takes.first)

@@ -2,6 +2,7 @@
 use Rattle.std.specs.Prelude.{◌≡◌, ◌⊎◌, ℕ, List, Option}
 use Rattle.std.specs.Io.KnownBytes.{Appends}
 use Rattle.edge_io.specs.Ends.{Rises, AppendsFront}
+use Rattle.edge_io.specs.Supply.{Supply}
 
 -- What a source shows: the bytes still to come, where they are told; how many it has given; how often it has failed.
 pub record SourceState : Type 0 where
@@ -20,10 +21,10 @@ pub record Seen (State : Type 0) : Type 0 where
   pub after : State
 
 -- What a call saw of a source.
-abbrev pub source_seen : {S : Type 0} → (S → Option (List ℕ)) → (S → ℕ) → (S → ℕ) → S → S → Seen SourceState
-source_seen rest given faults old new = record {
-  before = record { rest = rest old; given = given old; faults = faults old };
-  after = record { rest = rest new; given = given new; faults = faults new };
+abbrev pub source_seen : {S : Type 0} → Supply S → S → S → Seen SourceState
+source_seen supply old new = record {
+  before = record { rest = supply.rest old; given = supply.given old; faults = supply.faults old };
+  after = record { rest = supply.rest new; given = supply.given new; faults = supply.faults new };
 }
 
 -- What a call saw of a sink.

@@ -1,5 +1,5 @@
 // The run of a job, from a source to a sink.
-ghost use Rattle.std.specs.Prelude.{◌≡◌, true, string_bytes};
+ghost use Rattle.std.specs.Prelude.{◌≡◌, true, OnOk, string_bytes};
 ghost use Rattle.whiteread.specs.ReaderState.{reader_source};
 ghost use Rattle.line_job.specs.Ends.{source_seen, sink_seen};
 ghost use Rattle.line_job.specs.Runs.{Runs};
@@ -34,8 +34,10 @@ fn judge_line<J: LineJob>(
     line: &str,
     batch: &mut String,
 ) -> Result<bool, Stop<J::Why>>
-    requires { J.rules.judges (J.stage job.old) ≡ true }
-    ensures { Judged J.rules (J.stage job.old) number line.now (J.stage job.new) (string_bytes batch.old) (string_bytes batch.new) result }
+    requires judged { J.rules.judges (J.stage job.old) ≡ true }
+    requires sound { J.IsSound job.old }
+    ensures judged { Judged J.rules (J.stage job.old) number line.now (J.stage job.new) (string_bytes batch.old) (string_bytes batch.new) result }
+    ensures sound { OnOk result (J.IsSound job.new) }
 {
     match job.line(alloc, number, line, batch) {
         Ok(()) => Ok(true),
@@ -52,9 +54,11 @@ fn take_line<J: LineJob, B: Source>(
     before: u64,
     batch: &mut String,
 ) -> Result<bool, Stop<J::Why>>
-    requires { IsReady B.rest B.given before reader.old }
-    ensures step { LineStep B.rest B.given B.faults J.rules before reader.old reader.new (J.stage job.old) (J.stage job.new) (string_bytes batch.old) (string_bytes batch.new) result }
-    ensures same_reference { B.reference (reader_source reader.new) ≡ B.reference (reader_source reader.old) }
+    requires ready { IsReady B.supply before reader.old }
+    requires sound { J.IsSound job.old }
+    ensures step { LineStep B.supply J.rules before reader.old reader.new (J.stage job.old) (J.stage job.new) (string_bytes batch.old) (string_bytes batch.new) result }
+    ensures sound { OnOk result (J.IsSound job.new) }
+    ensures same_reference { B.supply.reference (reader_source reader.new) ≡ B.supply.reference (reader_source reader.old) }
 {
     match next_line(reader, before) {
         Ok(true) => {
@@ -89,6 +93,7 @@ fn judge_end<J: LineJob>(
     lines: u64,
     batch: &mut String,
 ) -> Result<u64, Stop<J::Why>>
+    requires { J.IsSound job.now }
     ensures { EndStep J.rules lines (J.stage job.now) (string_bytes batch.old) (string_bytes batch.new) result }
 {
     match job.end(alloc, lines, batch) {
@@ -116,9 +121,10 @@ fn run_lines<J: LineJob, B: Source, K: Sink>(
     reader: &mut Reader<B>,
     output: &mut K,
 ) -> Result<u64, Stop<J::Why>>
-    requires { IsReady B.rest B.given 0 reader.old }
-    ensures goes { Goes (ends_of B.rest B.given B.faults K.held K.faults) J.rules (first_place (J.stage job.old)) (view_of reader.old) (reader_source reader.new) output.old output.new result }
-    ensures same_reference { B.reference (reader_source reader.new) ≡ B.reference (reader_source reader.old) }
+    requires ready { IsReady B.supply 0 reader.old }
+    requires sound { J.IsSound job.old }
+    ensures goes { Goes (ends_of B.supply K.held K.faults) J.rules (first_place (J.stage job.old)) (view_of reader.old) (reader_source reader.new) output.old output.new result }
+    ensures same_reference { B.supply.reference (reader_source reader.new) ≡ B.supply.reference (reader_source reader.old) }
 {
     let mut batch = String::new(alloc);
     let mut lines: u64 = 0;
@@ -144,7 +150,8 @@ pub fn run_job<J: LineJob, S: Source, K: Sink>(
     output: &mut K,
     limit: u64,
 ) -> Result<u64, Stop<J::Why>>
-    ensures { Runs J.rules (J.stage job.old) limit (source_seen S.rest S.given S.faults input.old input.new) (sink_seen K.held K.faults output.old output.new) result }
+    requires { J.IsSound job.old }
+    ensures { Runs J.rules (J.stage job.old) limit (source_seen S.supply input.old input.new) (sink_seen K.held K.faults output.old output.new) result }
 {
     let mut reader = Reader::new(alloc, input, limit);
     let answer = run_lines(alloc, job, &mut reader, output);
@@ -161,7 +168,8 @@ pub fn run_told<J: LineJob, S: Source, K: Sink, E: Sink>(
     errors: &mut E,
     limit: u64,
 ) -> u8
-    ensures told { RunsTold J.rules (J.stage job.old) J.Why.message limit (source_seen S.rest S.given S.faults input.old input.new) (sink_seen K.held K.faults output.old output.new) (sink_seen E.held E.faults errors.old errors.new) result }
+    requires { J.IsSound job.old }
+    ensures told { RunsTold J.rules (J.stage job.old) J.Why.message limit (source_seen S.supply input.old input.new) (sink_seen K.held K.faults output.old output.new) (sink_seen E.held E.faults errors.old errors.new) result }
     ensures quiet { result ≡ 0 → errors.new ≡ errors.old }
 {
     match run_job(alloc, job, input, output, limit) {

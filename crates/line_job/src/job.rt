@@ -46,6 +46,9 @@ pub trait LineJob {
     /// What it makes of lines.
     ghost rules: { Rules Self.Stage Self.Why };
 
+    /// What holds of the job whenever a line or the end comes: each line keeps it.
+    ghost IsSound: { Self → Type 0 };
+
     /// Whether it judges another line. Where it doesn't, the rest of the input is read and not judged.
     fn judges(&self) -> bool
         ensures { result ≡ Self.rules.judges (Self.stage self.now) };
@@ -58,13 +61,16 @@ pub trait LineJob {
         line: &str,
         out: &mut String,
     ) -> Result<(), Refusal<Self::Why>>
-        requires { Self.rules.judges (Self.stage self.old) ≡ true }
+        requires judged { Self.rules.judges (Self.stage self.old) ≡ true }
+        requires sound { Self.IsSound self.old }
         ensures kept { OnOk result ((text : List ℕ) × Self.rules.keeps (Self.stage self.old) number line.now text (Self.stage self.new) × (string_bytes out.new ≡ string_bytes out.old ++ text)) }
         ensures refused { IfRefused result (Self.rules.refuses (Self.stage self.old) number line.now) }
+        ensures sound { OnOk result (Self.IsSound self.new) }
         ensures as_before { OnErr result (string_bytes out.new ≡ string_bytes out.old) };
 
     /// Judges the end of the input after so many lines, and puts what is owed last at the end of `out`.
     fn end(&self, alloc: Global, before: u64, out: &mut String) -> Result<(), Refusal<Self::Why>>
+        requires { Self.IsSound self.now }
         ensures kept { OnOk result ((text : List ℕ) × Self.rules.ends (Self.stage self.now) text × (string_bytes out.new ≡ string_bytes out.old ++ text)) }
         ensures refused { IfRefused result (Self.rules.misses (Self.stage self.now) before) }
         ensures as_before { OnErr result (string_bytes out.new ≡ string_bytes out.old) };

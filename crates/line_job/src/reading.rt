@@ -50,9 +50,9 @@ fn fault_of(error: Error, number: u64) -> LineFault
 /// Reads the next line, after so many were taken, and answers true; or answers false where none is left. After a line
 /// that no line feed ends nothing is read.
 pub(crate) fn next_line<B: Source>(reader: &mut Reader<B>, before: u64) -> Result<bool, LineFault>
-    requires { IsReady B.rest B.given before reader.old }
-    ensures step { NextLine B.rest B.given B.faults before reader.old result reader.new }
-    ensures same_reference { B.reference (reader_source reader.new) ≡ B.reference (reader_source reader.old) }
+    requires { IsReady B.supply before reader.old }
+    ensures step { NextLine B.supply before reader.old result reader.new }
+    ensures same_reference { B.supply.reference (reader_source reader.new) ≡ B.supply.reference (reader_source reader.old) }
 {
     if is_open(reader.current_line()) {
         return Ok(false);

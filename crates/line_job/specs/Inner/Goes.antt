@@ -2,6 +2,7 @@
 use Rattle.std.specs.Prelude.{◌≡◌, ◌<◌, ◌≤◌, ◌⊎◌, ◌+◌, ◌-◌, ℕ, List, [], ◌++◌, length, Option, Result, IfSome, IfOk, IfErr, OnOk, IsErrOf}
 use Rattle.std.specs.Io.KnownBytes.{Appends, Consumes, IsAtEnd}
 use Rattle.edge_io.specs.Ends.{Rises, AppendsFront}
+use Rattle.edge_io.specs.Supply.{Supply}
 use Rattle.whiteread.specs.Lines.{lines_of}
 use Rattle.whiteread.specs.ReaderState.{reader_source, reader_limit, reader_taken, reader_waiting, reader_line}
 use Rattle.whiteread.specs.declared.reader.Reader.{Reader}
@@ -14,14 +15,12 @@ use Rattle.line_job.specs.Inner.NextLine.{IsOpen, left_to_take}
 
 -- what the ends show of themselves
 pub record Ends (B K : Type 0) : Type 0 where
-  pub rest : B → Option (List ℕ)
-  pub given : B → ℕ
-  pub faults : B → ℕ
+  pub supply : Supply B
   pub held : K → Option (List ℕ)
   pub sink_faults : K → ℕ
 
-abbrev pub ends_of : {B K : Type 0} → (B → Option (List ℕ)) → (B → ℕ) → (B → ℕ) → (K → Option (List ℕ)) → (K → ℕ) → Ends B K
-ends_of rest given faults held sink_faults = record { rest = rest; given = given; faults = faults; held = held; sink_faults = sink_faults }
+abbrev pub ends_of : {B K : Type 0} → Supply B → (K → Option (List ℕ)) → (K → ℕ) → Ends B K
+ends_of supply held sink_faults = record { supply = supply; held = held; sink_faults = sink_faults }
 
 -- what a run needs of a reader: its source, the bytes that wait, how many more it may take, and the current line
 pub record View (B : Type 0) : Type 0 where
@@ -52,7 +51,7 @@ first_place start = place_of 0 start []
 
 -- a fact of the bytes that are still to come, where they are told
 abbrev pub Ahead : {B K : Type 0} → Ends B K → View B → (List ℕ → Type 0) → Type 0
-Ahead ends old P = IfSome (ends.rest old.source) (λ bytes. P (old.waiting ++ bytes))
+Ahead ends old P = IfSome (ends.supply.rest old.source) (λ bytes. P (old.waiting ++ bytes))
 
 -- all lines are kept, and the sink took all that is owed
 abbrev pub GrewAll : {Stage Why : Type 0} → Rules Stage Why → Place Stage → Option (List ℕ) → Option (List ℕ) → List (List ℕ) → Type 0
@@ -80,17 +79,17 @@ GrewRefused rules place held held' stop limit bytes = (text : List ℕ)
 
 -- what a run does from the next line on
 pub record Goes {B K Stage Why : Type 0} (ends : Ends B K) (rules : Rules Stage Why) (place : Place Stage) (old : View B) (source' : B) (output output' : K) (result : Result ℕ (Stop Why)) : Type 0 where
-  pub kept : OnOk result (Ahead ends old (λ bytes. IsAtEnd (ends.rest source') × GrewAll rules place (ends.held output) (ends.held output') (lines_of bytes)))
+  pub kept : OnOk result (Ahead ends old (λ bytes. IsAtEnd (ends.supply.rest source') × GrewAll rules place (ends.held output) (ends.held output') (lines_of bytes)))
   pub lines : IfOk result (λ n. Ahead ends old (λ bytes. (place.before + length (lines_of bytes) ≡ n) × (length bytes ≤ left old)))
   pub refused : IfErr result (λ stop. IsOfLines stop → Ahead ends old (GrewRefused rules place (ends.held output) (ends.held output') stop (left old)))
-  pub too_long : IsErrOf result TooLong → ends.given source' ≡ ends.given old.source + old.room + 1
-  pub within : IsErrOf result TooLong ⊎ (ends.given source' ≤ ends.given old.source + old.room)
-  pub gave : (got : List ℕ) × Consumes (ends.rest old.source) (ends.rest source') got × (ends.given source' ≡ ends.given old.source + length got)
+  pub too_long : IsErrOf result TooLong → ends.supply.given source' ≡ ends.supply.given old.source + old.room + 1
+  pub within : IsErrOf result TooLong ⊎ (ends.supply.given source' ≤ ends.supply.given old.source + old.room)
+  pub gave : (got : List ℕ) × Consumes (ends.supply.rest old.source) (ends.supply.rest source') got × (ends.supply.given source' ≡ ends.supply.given old.source + length got)
   pub past_limit : IsErrOf result TooLong → Ahead ends old (λ bytes. (left old < length bytes) × Grew rules place (ends.held output) (ends.held output') (ended_lines (left old) bytes))
-  pub read_fault : IsErrOf result ReadFault → Rises (ends.faults old.source) (ends.faults source')
+  pub read_fault : IsErrOf result ReadFault → Rises (ends.supply.faults old.source) (ends.supply.faults source')
   pub before_a_read : IsErrOf result ReadFault
-      → Ahead ends old (λ bytes. Grew rules place (ends.held output) (ends.held output') (ended_lines (length old.waiting + (ends.given source' - ends.given old.source)) bytes))
-  pub reads : IsErrOf result ReadFault ⊎ (ends.faults source' ≡ ends.faults old.source)
+      → Ahead ends old (λ bytes. Grew rules place (ends.held output) (ends.held output') (ended_lines (length old.waiting + (ends.supply.given source' - ends.supply.given old.source)) bytes))
+  pub reads : IsErrOf result ReadFault ⊎ (ends.supply.faults source' ≡ ends.supply.faults old.source)
   pub write_fault : IsErrOf result WriteFault → Rises (ends.sink_faults output) (ends.sink_faults output')
   pub writes : IsErrOf result WriteFault ⊎ (ends.sink_faults output' ≡ ends.sink_faults output)
   pub after_write_fault : IsErrOf result WriteFault → Ahead ends old (GrewSome rules place (ends.held output) (ends.held output') (left old))

@@ -3,6 +3,7 @@ use Rattle.std.specs.Prelude.{◌≡◌, ◌≢◌, ◌⊎◌, ◌+◌, ℕ, Lis
 use Rattle.std.specs.Io.KnownBytes.{Appends}
 use Rattle.edge_io.specs.Ends.{Rises, AppendsFront}
 use Rattle.edge_io.specs.declared.ends.Failed.{Failed as SinkFailed}
+use Rattle.edge_io.specs.Supply.{Supply}
 use Rattle.whiteread.specs.Lines.{without_feed, HasNoFeed}
 use Rattle.whiteread.specs.ReaderState.{reader_waiting, reader_line, ShowsSame}
 use Rattle.whiteread.specs.declared.reader.Reader.{Reader}
@@ -28,22 +29,22 @@ SentIfDue held faults old new output output' batch batch' (Ok done) = ShowsSame 
 SentIfDue held faults old new output output' batch batch' (Err failed) = ShowsSame old new × IsUnsent held faults output output' batch
 
 -- a line was taken and refused, and nothing was added to the batch
-abbrev pub StepRefused : {B Stage Why : Type 0} → (B → Option (List ℕ)) → (B → ℕ) → (B → ℕ) → Rules Stage Why → ℕ → Reader B → Reader B → Stage → Stop Why → Type 0
-StepRefused rest given faults rules before old new stage stop =
-    (line : List ℕ) × Took rest given faults before old new line × RefusesLine rules stage (before + 1) (without_feed line) stop
+abbrev pub StepRefused : {B Stage Why : Type 0} → Supply B → Rules Stage Why → ℕ → Reader B → Reader B → Stage → Stop Why → Type 0
+StepRefused supply rules before old new stage stop =
+    (line : List ℕ) × Took supply before old new line × RefusesLine rules stage (before + 1) (without_feed line) stop
 
 -- what stands after each answer of a step of the loop: the next line is taken and judged, or none is left
-abbrev pub LineStep : {B Stage Why : Type 0} → (B → Option (List ℕ)) → (B → ℕ) → (B → ℕ) → Rules Stage Why → ℕ → Reader B → Reader B → Stage → Stage → List ℕ → List ℕ → Result Bool (Stop Why) → Type 0
-LineStep rest given faults rules before old new stage next batch batch' (Ok true) =
-    (line : List ℕ) × (text : List ℕ) × Took rest given faults before old new line × KeepsLine rules stage (before + 1) (without_feed line) text next × (batch' ≡ batch ++ text)
+abbrev pub LineStep : {B Stage Why : Type 0} → Supply B → Rules Stage Why → ℕ → Reader B → Reader B → Stage → Stage → List ℕ → List ℕ → Result Bool (Stop Why) → Type 0
+LineStep supply rules before old new stage next batch batch' (Ok true) =
+    (line : List ℕ) × (text : List ℕ) × Took supply before old new line × KeepsLine rules stage (before + 1) (without_feed line) text next × (batch' ≡ batch ++ text)
     × ((reader_line new ≡ line) ⊎ (text ≡ []))
-LineStep rest given faults rules before old new stage next batch batch' (Ok false) = Ended rest given faults old new × (next ≡ stage) × (batch' ≡ batch)
-LineStep rest given faults rules before old new stage next batch batch' (Err ReadFault) = Failed rest given faults old new × (batch' ≡ batch)
-LineStep rest given faults rules before old new stage next batch batch' (Err TooLong) = Passed rest given faults old new × (batch' ≡ batch)
-LineStep rest given faults rules before old new stage next batch batch' (Err NoMemory) = Quiet rest given faults old new × (batch' ≡ batch)
-LineStep rest given faults rules before old new stage next batch batch' (Err WriteFault) = ⊥
-LineStep rest given faults rules before old new stage next batch batch' (Err (NotUtf8 line)) = StepRefused rest given faults rules before old new stage (NotUtf8 line) × (batch' ≡ batch)
-LineStep rest given faults rules before old new stage next batch batch' (Err (Line why)) = StepRefused rest given faults rules before old new stage (Line why) × (batch' ≡ batch)
+LineStep supply rules before old new stage next batch batch' (Ok false) = Ended supply old new × (next ≡ stage) × (batch' ≡ batch)
+LineStep supply rules before old new stage next batch batch' (Err ReadFault) = Failed supply old new × (batch' ≡ batch)
+LineStep supply rules before old new stage next batch batch' (Err TooLong) = Passed supply old new × (batch' ≡ batch)
+LineStep supply rules before old new stage next batch batch' (Err NoMemory) = Quiet supply old new × (batch' ≡ batch)
+LineStep supply rules before old new stage next batch batch' (Err WriteFault) = ⊥
+LineStep supply rules before old new stage next batch batch' (Err (NotUtf8 line)) = StepRefused supply rules before old new stage (NotUtf8 line) × (batch' ≡ batch)
+LineStep supply rules before old new stage next batch batch' (Err (Line why)) = StepRefused supply rules before old new stage (Line why) × (batch' ≡ batch)
 
 -- a job's refusal, as the run's
 abbrev pub stop_of : {Why : Type 0} → Refusal Why → Stop Why
