@@ -6,6 +6,7 @@ mod ElementLemmas
 mod Faults
 mod SameForm
 mod RowBridge
+mod RowLemmas
 mod HeaderLemmas
 mod RewriteLemmas
 mod ReformatLemmas

@@ -176,7 +176,7 @@ halt_in : ℕ → Halt
 halt_in letter = if letter == 105 then too_long else (if letter == 114 then read_fault else (if letter == 119 then write_fault else no_memory))
 
 halt_is : (halt : Halt) → halt_in (first_letter (halted halt)) ≡ halt
-unfolding (halt_in, first_letter)
+unfolding halt_in first_letter
 halt_is too_long = refl
 halt_is read_fault = refl
 halt_is write_fault = refl

@@ -41,8 +41,8 @@ kept_writes : (input : Seen SourceState) (output : Seen SinkState)
     → IfSome input.before.rest (λ bytes. IsAtEnd input.after.rest × ((text : List ℕ) × IsKept rewrite_rules kinds_next bytes text × Took output text)) → WritesAll input output
 kept_writes input output h = maps input.before.rest _ _ (λ bytes here. (here.0, (here.1.0, kept_is_rewritten (lines_of bytes) here.1.0 here.1.1, here.1.2))) h
 
-four : (rows : List (List ℕ)) {a b c d : List ℕ} → length (a ∷ b ∷ c ∷ d ∷ rows) ≡ length rows + 4
-four rows = omega arith
+four : (a b c d : List ℕ) (rows : List (List ℕ)) → length (a ∷ b ∷ c ∷ d ∷ rows) ≡ length rows + 4
+four a b c d rows = omega arith
 
 memory : (stop : Stop LineCause) → IsErrOf (stopped stop) NoMemory → IsErrOf (refused (error_of stop)) ErrorNoMemory
 memory stop e = let same : stop ≡ NoMemory = cc in ap (λ (s : Stop LineCause). refused (error_of s)) same
@@ -50,7 +50,7 @@ memory stop e = let same : stop ≡ NoMemory = cc in ap (λ (s : Stop LineCause)
 -- rewritten lines are four headers and rows
 four_more : (lines : List (List ℕ)) (text : List ℕ) (n : ℕ) → AreRewritten lines text → length lines ≡ n → length lines ≡ (n - 4) + 4
 four_more lines text n r e =
-    let long : length lines ≡ length r.rows + 4 = ap length r.lines_are ∙ four r.rows in
+    let long : length lines ≡ length r.rows + 4 = ap length r.lines_are ∙ four r.kinds_line r.layout.format r.dialect_line r.layout.template r.rows in
     omega (arith, long, e)
 
 must_end : (limit : ℕ) (input : Seen SourceState) (output : Seen SinkState) (answer : Result ℕ (Stop LineCause)) → Runs rewrite_rules kinds_next limit input output answer

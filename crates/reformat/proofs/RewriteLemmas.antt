@@ -104,8 +104,8 @@ kept_is_rewritten lines text (owed, tail, last, kept, ends, e) =
 
 rows_are_kept : (before : ℕ) (layout : Layout) (rows : List (List ℕ)) (text : List ℕ) → AllByRecursion IsUtf8 rows → IsTextOf layout rows text → AreKept rewrite_rules before (rows_next layout) rows text (rows_next layout)
 rows_are_kept before layout [] text utf8 h = (h, refl)
-rows_are_kept before layout (row ∷ rows) text utf8 (line, rest, as, e, more) =
-    (line ++ 10 ∷ [], rest, rows_next layout, inl (refl, utf8.0, ((line, as, refl), refl)), e ∙ sym (append_assoc line (10 ∷ []) rest), rows_are_kept (before + 1) layout rows rest utf8.1 more)
+rows_are_kept before layout (row ∷ rows) text utf8 (line, rest, made, e, more) =
+    (line ++ 10 ∷ [], rest, rows_next layout, inl (refl, utf8.0, ((line, made, refl), refl)), e ∙ sym (append_assoc line (10 ∷ []) rest), rows_are_kept (before + 1) layout rows rest utf8.1 more)
 
 pub rewritten_is_kept : (lines : List (List ℕ)) (text : List ℕ) → AreRewritten lines text → AreAllKept rewrite_rules 0 kinds_next lines text
 rewritten_is_kept lines text r =

@@ -70,27 +70,27 @@ flat_places [] = refl
 flat_places (Verbatim text ∷ elements) = bytes_places text.now (flat elements) ∙ flat_places elements
 flat_places (Format f ∷ elements) = field_places f.conversion_type (flat elements) ∙ ap (λ n. fields_in f.conversion_type + n) (flat_places elements)
 
-count_is : (kinds : ℕ) (elements : List FormatElement) (line numbers : List ℕ) → IsInForm kinds elements → IsNumberRow elements line numbers → length numbers ≡ kinds
+pub count_is : (kinds : ℕ) (elements : List FormatElement) (line numbers : List ℕ) → IsInForm kinds elements → IsNumberRow elements line numbers → length numbers ≡ kinds
 count_is kinds elements line numbers form row =
     let flat_is = flat_row elements line numbers form.separated row in
     sym (places_are (flat elements) numbers line flat_is.text) ∙ flat_places elements ∙ form.one_a_kind
 
 -- numbers as values, each of the kind u64
 
-abbrev pub AreU64 : List Kind → Type 0
-AreU64 = AllByRecursion (λ kind. kind ≡ U64)
+abbrev pub EachU64 : List Kind → Type 0
+EachU64 = AllByRecursion (λ kind. kind ≡ U64)
 
 abbrev pub as_values : List ℕ → List Datum
 as_values numbers = map natural numbers
 
-of_kinds : (kinds : List Kind) (numbers : List ℕ) → AreU64 kinds → AllByRecursion (λ n. n < 2 ^ 64) numbers → length numbers ≡ length kinds → AllZip IsOfKind kinds (as_values numbers)
+of_kinds : (kinds : List Kind) (numbers : List ℕ) → EachU64 kinds → AllByRecursion (λ n. n < 2 ^ 64) numbers → length numbers ≡ length kinds → AllZip IsOfKind kinds (as_values numbers)
 of_kinds [] [] each fit same = tt
 of_kinds [] (n ∷ numbers) each fit same = absurd (omega (arith, same))
 of_kinds (kind ∷ kinds) [] each fit same = absurd (omega (arith, same))
 of_kinds (kind ∷ kinds) (n ∷ numbers) each fit same =
     (subst (λ (k : Kind). IsOfKind k (natural n)) (sym each.0) fit.0, of_kinds kinds numbers each.1 fit.1 (omega (arith, same)))
 
-pub meanings_are : (kinds : List Kind) (numbers : List ℕ) → AreU64 kinds → length numbers ≡ length kinds → meanings_of kinds (as_values numbers) ≡ values_of numbers
+pub meanings_are : (kinds : List Kind) (numbers : List ℕ) → EachU64 kinds → length numbers ≡ length kinds → meanings_of kinds (as_values numbers) ≡ values_of numbers
 meanings_are [] [] each same = refl
 meanings_are [] (n ∷ numbers) each same = absurd (omega (arith, same))
 meanings_are (kind ∷ kinds) [] each same = absurd (omega (arith, same))
@@ -104,7 +104,10 @@ number_of (integer z) fits = absurd fits
 number_of (word text) fits = absurd fits
 number_of (character c) fits = absurd fits
 
-numbers_of : (kinds : List Kind) (values : List Datum) → AreU64 kinds → AllZip IsOfKind kinds values
+longer : (numbers : List ℕ) (kinds : List Kind) (n : ℕ) (kind : Kind) → length numbers ≡ length kinds → length (n ∷ numbers) ≡ length (kind ∷ kinds)
+longer numbers kinds n kind same = omega (arith, same)
+
+numbers_of : (kinds : List Kind) (values : List Datum) → EachU64 kinds → AllZip IsOfKind kinds values
     → (numbers : List ℕ) × (values ≡ as_values numbers) × AllByRecursion (λ n. n < 2 ^ 64) numbers × (length numbers ≡ length kinds)
 numbers_of [] [] each fit = ([], refl, tt, refl)
 numbers_of [] (value ∷ values) each fit = absurd fit
@@ -112,11 +115,11 @@ numbers_of (kind ∷ kinds) [] each fit = absurd fit
 numbers_of (kind ∷ kinds) (value ∷ values) each fit =
     let first = number_of value (subst (λ (k : Kind). IsOfKind k value) each.0 fit.0) in
     let rest = numbers_of kinds values each.1 fit.1 in
-    (first.0 ∷ rest.0, ap (λ v. v ∷ values) first.1 ∙ ap (λ vs. natural first.0 ∷ vs) rest.1, (first.2, rest.2), ap (λ n. n + 1) rest.3)
+    (first.0 ∷ rest.0, ap (λ v. v ∷ values) first.1 ∙ ap (λ vs. natural first.0 ∷ vs) rest.1, (first.2, rest.2), longer rest.0 kinds first.0 kind rest.3)
 
 -- rows
 
-pub row_of_numbers : (kinds : List Kind) (format : List ℕ) (elements : List FormatElement) (row numbers : List ℕ) → AreU64 kinds → IsFormat format elements → IsInForm (length kinds) elements
+pub row_of_numbers : (kinds : List Kind) (format : List ℕ) (elements : List FormatElement) (row numbers : List ℕ) → EachU64 kinds → IsFormat format elements → IsInForm (length kinds) elements
     → IsNumberRow elements row numbers → IsRow kinds format row (as_values numbers)
 row_of_numbers kinds format elements row numbers each spelled form is =
     let same = count_is (length kinds) elements row numbers form is in
@@ -125,7 +128,7 @@ row_of_numbers kinds format elements row numbers each spelled form is =
       printed = (elements, spelled, ap (printed elements) (meanings_are kinds numbers each same) ∙ is.text);
     }
 
-pub numbers_of_row : (kinds : List Kind) (format : List ℕ) (elements : List FormatElement) (row : List ℕ) (values : List Datum) → AreU64 kinds → IsFormat format elements
+pub numbers_of_row : (kinds : List Kind) (format : List ℕ) (elements : List FormatElement) (row : List ℕ) (values : List Datum) → EachU64 kinds → IsFormat format elements
     → IsRow kinds format row values → (numbers : List ℕ) × (values ≡ as_values numbers) × IsNumberRow elements row numbers
 numbers_of_row kinds format elements row values each spelled is =
     let h = numbers_of kinds values each is.of_kinds in
@@ -139,7 +142,7 @@ numbers_of_row kinds format elements row values each spelled is =
       },
     )
 
-pub only_row : (layout : Layout) (elements : List FormatElement) (row numbers : List ℕ) → AreU64 layout.kinds → IsFormat layout.format elements → IsInForm (length layout.kinds) elements
+pub only_row : (layout : Layout) (elements : List FormatElement) (row numbers : List ℕ) → EachU64 layout.kinds → IsFormat layout.format elements → IsInForm (length layout.kinds) elements
     → IsNumberRow elements row numbers → IsRowOf layout row (as_values numbers)
 only_row layout elements row numbers each spelled form is = record {
   is_row = row_of_numbers layout.kinds layout.format elements row numbers each spelled form is;

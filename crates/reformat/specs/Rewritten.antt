@@ -1,14 +1,14 @@
 -- What is written for all of an input.
 use Rattle.std.specs.Prelude.{◌≡◌, ℕ, List, [], ◌∷◌, ◌++◌, length, All}
 use Rattle.std.specs.Str.{IsUtf8}
-use Rattle.whiteread.specs.Lines.{lines_of}
+use Rattle.whiteread.specs.Lines.{lines_of, line_feed}
 use Rattle.reformat.specs.Rewrite.{Layout, IsRewrittenAs}
 use Rattle.reformat.specs.Headers.{IsKindsLine, IsFormatLine, IsDialectLine, IsTemplateLine}
 
 -- The text is, for each row in order, the line that it is rewritten as, and a line feed.
 abbrev pub IsTextOf : Layout → List (List ℕ) → List ℕ → Type 0
 IsTextOf layout [] text = text ≡ []
-IsTextOf layout (row ∷ rows) text = (line : List ℕ) × (rest : List ℕ) × IsRewrittenAs layout row line × (text ≡ line ++ 10 ∷ rest) × IsTextOf layout rows rest
+IsTextOf layout (row ∷ rows) text = (line : List ℕ) × (rest : List ℕ) × IsRewrittenAs layout row line × (text ≡ line ++ line_feed ∷ rest) × IsTextOf layout rows rest
 
 -- The lines are UTF-8: four headers that keep their rules, and rows; the text is that of the rows.
 pub record AreRewritten (lines : List (List ℕ)) (text : List ℕ) : Type 0 where

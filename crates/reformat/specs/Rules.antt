@@ -1,5 +1,6 @@
 -- The rules of the job that rewrites rows.
 use Rattle.std.specs.Prelude.{◌≡◌, ◌⊎◌, ℕ, List, [], ◌∷◌, ◌++◌, length, Bool, true, Err}
+use Rattle.whiteread.specs.Lines.{line_feed}
 use Rattle.values.specs.declared.kind.Kind.{Kind}
 use Rattle.values.specs.Datum.{Datum}
 use Rattle.line_job.specs.Rules.{Rules}
@@ -30,7 +31,7 @@ Keeps (format_next kinds) number line text next = (text ≡ []) × IsFormatLine 
 Keeps (dialect_next kinds format) number line text next = (text ≡ []) × ((dialect : Dialect) × IsDialectLine line dialect × (next ≡ template_next kinds format dialect))
 Keeps (template_next kinds format dialect) number line text next =
     (text ≡ []) × IsTemplateLine dialect line × (next ≡ rows_next (record { kinds = kinds; format = format; dialect = dialect; template = line }))
-Keeps (rows_next layout) number row text next = ((line : List ℕ) × IsRewrittenAs layout row line × (text ≡ line ++ 10 ∷ [])) × (next ≡ rows_next layout)
+Keeps (rows_next layout) number row text next = ((line : List ℕ) × IsRewrittenAs layout row line × (text ≡ line ++ line_feed ∷ [])) × (next ≡ rows_next layout)
 
 -- A line is refused by its rule.
 abbrev pub Refuses : Stage → ℕ → List ℕ → LineCause → Type 0

@@ -32,7 +32,7 @@ pub fn reformat<S: Source, K: Sink>(
     output: &mut K,
     limit: u64,
 ) -> Result<u64, ReformatError>
-    ensures { Reformats limit (source_seen S.rest S.given S.faults input.old input.new) (sink_seen K.held K.faults output.old output.new) result }
+    ensures { Reformats limit (source_seen S.supply input.old input.new) (sink_seen K.held K.faults output.old output.new) result }
 {
     let texts = Bump::new(alloc);
     let mut job = Rewrite::new(alloc, &texts);
@@ -53,15 +53,15 @@ pub fn run<S: Source, K: Sink, E: Sink>(
 ) -> u8
     // Status 0 of `rewrite`: all was read, and the rows were written over again.
     ensures rewritten { map string_bytes words.now ≡ rewrite_words → result ≡ 0
-        → WritesAll (source_seen S.rest S.given S.faults input.old input.new) (sink_seen K.held K.faults output.old output.new) }
+        → WritesAll (source_seen S.supply input.old input.new) (sink_seen K.held K.faults output.old output.new) }
 
     // Every status of `rewrite` is that of a result of the job, and its message is told.
     ensures job { map string_bytes words.now ≡ rewrite_words
-        → RunsTold rewrite_rules kinds_next cause_message input_limit (source_seen S.rest S.given S.faults input.old input.new) (sink_seen K.held K.faults output.old output.new) (sink_seen E.held E.faults errors.old errors.new) result }
+        → RunsTold rewrite_rules kinds_next cause_message input_limit (source_seen S.supply input.old input.new) (sink_seen K.held K.faults output.old output.new) (sink_seen E.held E.faults errors.old errors.new) result }
 
     // Input that keeps the rules and the limit is rewritten, where no fault was counted and memory was there.
     ensures complete { map string_bytes words.now ≡ rewrite_words
-        → Completes (source_seen S.rest S.given S.faults input.old input.new) (sink_seen K.held K.faults output.old output.new) result }
+        → Completes (source_seen S.supply input.old input.new) (sink_seen K.held K.faults output.old output.new) result }
 
     // Other words are no command: the usage line is told, and nothing is read or written.
     ensures usage { ¬ (map string_bytes words.now ≡ rewrite_words)

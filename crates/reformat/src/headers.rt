@@ -1,14 +1,14 @@
 // The header lines, each by the number of its line.
-ghost use Rattle.std.specs.Prelude.{◌≡◌, ◌↔◌, IsTrue, All, IfOk, IfErr, MatchOption, length};
+ghost use Rattle.std.specs.Prelude.{◌≡◌, ◌↔◌, IsTrue, IfOk, IfErr, MatchOption, length};
 ghost use Rattle.sprintf.specs.Grammar.{IsFormat, IsNoFormat};
-ghost use Rattle.values.specs.declared.kind.Kind.TheVariants.{U64};
 ghost use Rattle.line_job.specs.Refusal.{IfRefused};
 ghost use Rattle.line_job.specs.declared.job.Refusal.TheVariants.{NoMemory};
 ghost use Rattle.reformat.specs.Headers.{IsKindsLine, RefusesKinds, RefusesFormatLine, IsDialectLine, RefusesDialect, RefusesTemplate};
+ghost use Rattle.reformat.specs.Inner.Layout.{AreU64, IsSoundSource, IsSoundTemplate};
 
 use crate::dialect::{Dialect, dialect_of};
 use crate::form::is_in_form;
-use crate::source::{Kinds, Source, Template};
+use crate::source::{Source, Template};
 use crate::{LineCause, TemplateFault};
 use bumpalo::Bump;
 use line_job::Refusal;
@@ -18,7 +18,7 @@ use std::alloc::Global;
 use values::{Kind, KindsError, parse_kinds};
 
 fn all_u64(kinds: &[Kind]) -> bool
-    ensures { IsTrue result ↔ All (λ kind. kind ≡ U64) kinds.now }
+    ensures { IsTrue result ↔ AreU64 kinds.now }
 {
     kinds.iter().all(|kind| *kind == Kind::U64)
 }
@@ -28,14 +28,14 @@ pub(crate) fn read_kinds(
     alloc: Global,
     number: u64,
     line: &str,
-) -> Result<Kinds, Refusal<LineCause>>
-    ensures ok { IfOk result (λ kinds. IsKindsLine line.now kinds.list.items) }
+) -> Result<Vec<Kind>, Refusal<LineCause>>
+    ensures ok { IfOk result (λ kinds. IsKindsLine line.now kinds.items) }
     ensures refused { IfRefused result (RefusesKinds number line.now) }
 {
     match parse_kinds(alloc, line) {
         Ok(kinds) => {
             if all_u64(&kinds) {
-                Ok(Kinds { list: kinds })
+                Ok(kinds)
             } else {
                 Err(Refusal::Line(LineCause::NotBuilt { line: number }))
             }
@@ -65,18 +65,20 @@ pub(crate) fn read_source<'a>(
     alloc: Global,
     texts: &'a Bump,
     number: u64,
-    kinds: Kinds,
+    kinds: Vec<Kind>,
     line: &str,
 ) -> Result<Source<'a>, Refusal<LineCause>>
-    ensures kinds { IfOk result (λ source. source.kinds.list.items ≡ kinds.list.items) }
+    requires { AreU64 kinds.items }
+    ensures kinds { IfOk result (λ source. source.kinds.items ≡ kinds.items) }
     ensures text { IfOk result (λ source. source.text.now ≡ line.now) }
-    ensures refused { IfRefused result (RefusesFormatLine number (length kinds.list.items) line.now) }
+    ensures sound { IfOk result IsSoundSource }
+    ensures refused { IfRefused result (RefusesFormatLine number (length kinds.items) line.now) }
 {
     let text = texts.try_alloc_str(line)?;
     let Some(elements) = elements_of(alloc, text)? else {
         return Err(Refusal::Line(LineCause::SourceFormat { line: number }));
     };
-    if !is_in_form(kinds.list.len(), &elements) {
+    if !is_in_form(kinds.len(), &elements) {
         return Err(Refusal::Line(LineCause::NotBuilt { line: number }));
     }
     Ok(Source {
@@ -107,6 +109,7 @@ pub(crate) fn read_template<'a>(
     line: &str,
 ) -> Result<Template<'a>, Refusal<LineCause>>
     ensures text { IfOk result (λ template. template.text.now ≡ line.now) }
+    ensures sound { IfOk result IsSoundTemplate }
     ensures refused { IfRefused result (RefusesTemplate number Dialect.Printf line.now) }
 {
     let text = texts.try_alloc_str(line)?;

@@ -1,24 +1,26 @@
 // The job that rewrites rows.
 ghost use Rattle.std.specs.Prelude.{◌≡◌, [], IfOk};
 ghost use Rattle.line_job.specs.Refusal.{IfRefused};
-ghost use Rattle.reformat.specs.Rules.{Stage, kinds_next, rewrite_rules, Keeps, Refuses};
-ghost use Rattle.reformat.specs.Inner.State.{stage_of, IsHeaderNext};
+ghost use Rattle.reformat.specs.declared.rewrite.State.TheVariants.{Kinds};
+ghost use Rattle.reformat.specs.Rules.{Stage, rewrite_rules, Keeps, Refuses};
+ghost use Rattle.reformat.specs.Inner.State.{stage_of, IsHeaderNext, IsSoundState};
 ghost use Rattle.reformat.specs.Inner.Clear.{rewrite_clear};
 
 use crate::LineCause;
 use crate::headers::{read_dialect, read_kinds, read_source, read_template};
-use crate::row::{Room, rewrite_row};
-use crate::source::{Kinds, Source, Template};
+use crate::row::rewrite_row;
+use crate::source::{Source, Template};
 use bumpalo::Bump;
 use line_job::{LineJob, Refusal};
 use std::alloc::Global;
 use std::mem;
+use values::Kind;
 
 /// Which line comes next, and what those before it said.
 #[derive(Drop)]
 pub(crate) enum State<'a> {
     Kinds,
-    Format(Kinds),
+    Format(Vec<Kind>),
     Dialect(Source<'a>),
     Template(Source<'a>),
     Rows(Source<'a>, Template<'a>),
@@ -33,8 +35,10 @@ fn read_header<'a>(
     line: &str,
 ) -> Result<State<'a>, Refusal<LineCause>>
     requires header { IsHeaderNext state }
-    ensures kept { IfOk result (λ next. Keeps (stage_of state) number line.now [] (stage_of next)) }
-    ensures refused { IfRefused result (Refuses (stage_of state) number line.now) }
+    requires sound { IsSoundState state }
+    ensures kept { IfOk result (λ next. Keeps (stage_of state.entry) number line.now [] (stage_of next)) }
+    ensures sound { IfOk result IsSoundState }
+    ensures refused { IfRefused result (Refuses (stage_of state.entry) number line.now) }
 {
     match state {
         State::Kinds => Ok(State::Format(read_kinds(alloc, number, line)?)),
@@ -56,18 +60,18 @@ fn read_header<'a>(
 pub(crate) struct Rewrite<'a> {
     texts: &'a Bump,
     state: State<'a>,
-    room: Room,
+    numbers: Vec<u64>,
 }
 
 impl<'a> Rewrite<'a> {
     /// No line was read. It takes no memory.
     pub(crate) fn new(alloc: Global, texts: &'a Bump) -> Rewrite<'a>
-        ensures { stage_of result.state ≡ kinds_next }
+        ensures { result.state ≡ Kinds }
     {
         Rewrite {
             texts,
             state: State::Kinds,
-            room: Room::new(alloc),
+            numbers: Vec::new(alloc),
         }
     }
 }
@@ -81,6 +85,8 @@ impl LineJob for Rewrite<'_> {
 
     ghost rules = { rewrite_rules };
 
+    ghost IsSound = { λ job. IsSoundState job.state };
+
     fn judges(&self) -> bool {
         true
     }
@@ -93,7 +99,15 @@ impl LineJob for Rewrite<'_> {
         out: &mut String,
     ) -> Result<(), Refusal<LineCause>> {
         if let State::Rows(source, template) = &self.state {
-            return rewrite_row(alloc, source, template, number, line, &mut self.room, out);
+            return rewrite_row(
+                alloc,
+                source,
+                template,
+                number,
+                line,
+                &mut self.numbers,
+                out,
+            );
         }
         let state = mem::replace(&mut self.state, State::Kinds);
         self.state = read_header(alloc, self.texts, state, number, line)?;

@@ -1,5 +1,5 @@
 // Rows read and printed.
-ghost use Rattle.std.specs.Prelude.{◌≡◌, ◌⊎◌, ◌<◌, ◌^◌, ◌++◌, ◌∷◌, [], ℕ, List, IfOk, IfErr, IfSome, IfNone, IsTrue, ◌↔◌, ◌≢◌, false, string_bytes, OnOk, OnErr, length, slice_index};
+ghost use Rattle.std.specs.Prelude.{◌≡◌, ◌⊎◌, ◌<◌, ◌^◌, ◌++◌, ◌∷◌, [], ℕ, List, IfOk, IfErr, IfSome, IfNone, IsTrue, ◌↔◌, ◌≢◌, false, string_bytes, take, IsCharBoundary, OnOk, OnErr, length, slice_index};
 ghost use Rattle.std.specs.Fmt.{decimal};
 ghost use Rattle.reformat.specs.declared.error.RenderFault.{RenderFault};
 ghost use Rattle.reformat.specs.declared.error.LineCause.TheVariants.{Render};
@@ -11,7 +11,7 @@ ghost use Rattle.reformat.specs.Rules.{RefusesRow};
 ghost use Rattle.reformat.specs.Inner.Digits.{ReadsDigits};
 ghost use Rattle.reformat.specs.Inner.Numbers.{IsNumberRow, IsToldFault};
 ghost use Rattle.reformat.specs.Inner.ElementRead.{ReadsElement};
-ghost use Rattle.reformat.specs.Inner.Layout.{layout_of};
+ghost use Rattle.reformat.specs.Inner.Layout.{layout_of, IsSoundSource, IsSoundTemplate};
 
 use crate::LineCause;
 use crate::error::fault_of;
@@ -136,19 +136,18 @@ fn refusal_of(cause: &PrintfError, number: u64) -> Refusal<LineCause>
     }
 }
 
-/// Room that is used again from row to row: for the numbers of a row, and for the text that the template prints of them.
-#[derive(Drop)]
-pub(crate) struct Room {
-    numbers: Vec<u64>,
-    line: String,
-}
-
-impl Room {
-    /// Nothing is kept yet. It takes no memory.
-    pub(crate) fn new(alloc: Global) -> Room {
-        Room {
-            numbers: Vec::new(alloc),
-            line: String::new(alloc),
+// Puts a line feed at the end, or cuts the text to the bytes before.
+fn end_line(out: &mut String, before: usize) -> Result<(), Refusal<LineCause>>
+    requires { IsCharBoundary (string_bytes out.old) before }
+    ensures ok { OnOk result (string_bytes out.new ≡ string_bytes out.old ++ 10 ∷ []) }
+    ensures cut { OnErr result (string_bytes out.new ≡ take before (string_bytes out.old)) }
+    ensures memory { IfErr result (λ why. why ≡ Refusal.NoMemory) }
+{
+    match out.push_str("\n") {
+        Ok(()) => Ok(()),
+        Err(_) => {
+            out.truncate(before);
+            Err(Refusal::NoMemory)
         }
     }
 }
@@ -161,22 +160,21 @@ pub(crate) fn rewrite_row(
     template: &Template<'_>,
     number: u64,
     row: &str,
-    room: &mut Room,
+    numbers: &mut Vec<u64>,
     out: &mut String,
 ) -> Result<(), Refusal<LineCause>>
+    requires source { IsSoundSource source.now }
+    requires template { IsSoundTemplate template.now }
     ensures kept { OnOk result ((line : List ℕ) × IsRewrittenAs (layout_of source.now template.now) row.now line × (string_bytes out.new ≡ string_bytes out.old ++ (line ++ 10 ∷ []))) }
     ensures refused { IfRefused result (RefusesRow (layout_of source.now template.now) number row.now) }
     ensures as_before { OnErr result (string_bytes out.new ≡ string_bytes out.old) }
 {
-    if !read_row(&source.elements, row.as_bytes(), &mut room.numbers)? {
+    if !read_row(&source.elements, row.as_bytes(), numbers)? {
         return Err(Refusal::Line(LineCause::NotARow { line: number }));
     }
-    match vsprintfp_into(alloc, &mut room.line, &template.elements, &room.numbers) {
-        Ok(()) => {
-            room.line.push_str("\n")?;
-            out.push_str(room.line.as_str())?;
-            Ok(())
-        }
+    let before = out.len();
+    match vsprintfp_into(alloc, out, &template.elements, numbers) {
+        Ok(()) => end_line(out, before),
         Err(cause) => Err(refusal_of(&cause, number)),
     }
 }
