@@ -22,42 +22,48 @@ fn plain(conversion_type: ConversionType, width: NumericParam) -> ConversionSpec
     }
 }
 
-/// The value prints as this text under the format.
+/// The values print as this text under the format.
 fn prints<P: Printf>(
     rt: &impl Abort,
     alloc: Global,
     format: &str,
-    value: P,
+    values: &[P],
     want: &str,
 ) -> Result<(), Fail> {
-    let text = vsprintf(alloc, format, &[value])?;
-    assert_eq!(rt; text.as_str(), want, "{format}");
+    let text = vsprintf(alloc, format, values)?;
+    assert_eq!(rt; text.as_str(), want);
     Ok(())
 }
 
 #[test]
 fn values_print_themselves(rt: HostRuntime) -> Result<(), Fail> {
     let alloc = rt.alloc();
-    prints(&rt, alloc, "%4d|", 1u8, "   1|")?;
-    prints(&rt, alloc, "%4d|", 2u16, "   2|")?;
-    prints(&rt, alloc, "%4d|", 3u32, "   3|")?;
-    prints(&rt, alloc, "%4d|", 4u64, "   4|")?;
-    prints(&rt, alloc, "%4d|", 5usize, "   5|")?;
-    prints(&rt, alloc, "%4d|", -1i8, "  -1|")?;
-    prints(&rt, alloc, "%4d|", -2i16, "  -2|")?;
-    prints(&rt, alloc, "%4d|", -3i32, "  -3|")?;
-    prints(&rt, alloc, "%4d|", -4i64, "  -4|")?;
-    prints(&rt, alloc, "%4d|", -5isize, "  -5|")?;
-    prints(&rt, alloc, "%4c|", 'a', "   a|")?;
-    prints(&rt, alloc, "%4s|", "ab", "  ab|")?;
-    prints(&rt, alloc, "%4s|", String::from_str(alloc, "cd")?, "  cd|")
+    prints(&rt, alloc, "%4d|", &[1u8], "   1|")?;
+    prints(&rt, alloc, "%4d|", &[2u16], "   2|")?;
+    prints(&rt, alloc, "%4d|", &[3u32], "   3|")?;
+    prints(&rt, alloc, "%4d|", &[4u64], "   4|")?;
+    prints(&rt, alloc, "%4d|", &[5usize], "   5|")?;
+    prints(&rt, alloc, "%4d|", &[-1i8], "  -1|")?;
+    prints(&rt, alloc, "%4d|", &[-2i16], "  -2|")?;
+    prints(&rt, alloc, "%4d|", &[-3i32], "  -3|")?;
+    prints(&rt, alloc, "%4d|", &[-4i64], "  -4|")?;
+    prints(&rt, alloc, "%4d|", &[-5isize], "  -5|")
+}
+
+#[test]
+fn texts_print_themselves(rt: HostRuntime) -> Result<(), Fail> {
+    let alloc = rt.alloc();
+    prints(&rt, alloc, "%4c|", &['a'], "   a|")?;
+    prints(&rt, alloc, "%4s|", &["ab"], "  ab|")?;
+    let text = String::from_str(alloc, "cd")?;
+    prints(&rt, alloc, "%-4s|", &[text], "cd  |")
 }
 
 #[test]
 fn a_boxed_object_is_its_value(rt: HostRuntime) -> Result<(), Fail> {
     let boxed: Box<dyn Printf> = Box::new(rt.alloc(), 7u8)?;
     assert_eq!(rt; boxed.as_int(), Some(7));
-    prints(&rt, rt.alloc(), "%3d", boxed, "  7")
+    prints(&rt, rt.alloc(), "%3d", &[boxed], "  7")
 }
 
 #[test]
@@ -107,17 +113,43 @@ fn a_fault_of_a_callers_value_is_passed_on(rt: HostRuntime) {
     assert_eq!(rt; answer, Err(PrintfError::TooManyArgs));
 }
 
+/// A caller's own value, which makes its text in memory of its own.
+#[derive(Drop)]
+struct Yes;
+
+impl Printf for Yes {
+    ghost use Rattle.std.specs.Prelude.{Ok, None, codes};
+
+    ghost meaning = { λ _. record { text = λ _. Ok (codes "yes"); int = None } };
+
+    fn format(&self, alloc: Global, spec: &ConversionSpecifier) -> sprintf::Result<String> {
+        let _ = spec;
+        Ok(String::from_str(alloc, "yes")?)
+    }
+
+    fn as_int(&self) -> Option<i32> {
+        None
+    }
+}
+
 #[test]
-fn a_text_is_printed_over(rt: HostRuntime) -> Result<(), Fail> {
+fn a_callers_value_is_printed(rt: HostRuntime) -> Result<(), Fail> {
+    prints(&rt, rt.alloc(), "%d, %s", &[Yes, Yes], "yes, yes")
+}
+
+#[test]
+fn a_text_grows(rt: HostRuntime) -> Result<(), Fail> {
     let alloc = rt.alloc();
     let elements = parse_format_string(alloc, "%#06x|")?;
-    let mut text = String::from_str(alloc, "old")?;
+    let mut text = String::from_str(alloc, "é ")?;
     vsprintfp_into(alloc, &mut text, &elements, &[16u8])?;
-    assert_eq!(rt; text.as_str(), "0x0010|");
-    let none: [u8; 0] = [];
-    let answer = vsprintfp_into(alloc, &mut text, &elements, &none);
-    assert_eq!(rt; answer, Err(PrintfError::NotEnoughArgs));
-    assert_eq!(rt; text.as_str(), "");
+    assert_eq!(rt; text.as_str(), "é 0x0010|");
+    let answer = vsprintfp_into(alloc, &mut text, &elements, &[16u8, 17u8]);
+    assert_eq!(rt; answer, Err(PrintfError::TooManyArgs));
+    assert_eq!(rt; text.as_str(), "é 0x0010|");
+    let three = plain(ConversionType::DecInt, NumericParam::Literal(3));
+    7u64.format_into(alloc, &three, &mut text)?;
+    assert_eq!(rt; text.as_str(), "é 0x0010|  7");
     Ok(())
 }
 

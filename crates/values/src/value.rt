@@ -65,6 +65,28 @@ impl Printf for Value {
         }
     }
 
+    fn format_into(
+        &self,
+        alloc: Global,
+        spec: &ConversionSpecifier,
+        out: &mut String,
+    ) -> Result<()> {
+        match self {
+            Value::U8(number) => number.format_into(alloc, spec, out),
+            Value::U16(number) => number.format_into(alloc, spec, out),
+            Value::U32(number) => number.format_into(alloc, spec, out),
+            Value::U64(number) => number.format_into(alloc, spec, out),
+            Value::Usize(number) => number.format_into(alloc, spec, out),
+            Value::I8(number) => number.format_into(alloc, spec, out),
+            Value::I16(number) => number.format_into(alloc, spec, out),
+            Value::I32(number) => number.format_into(alloc, spec, out),
+            Value::I64(number) => number.format_into(alloc, spec, out),
+            Value::Isize(number) => number.format_into(alloc, spec, out),
+            Value::Word(word) => word.as_str().format_into(alloc, spec, out),
+            Value::Char(character) => character.format_into(alloc, spec, out),
+        }
+    }
+
     fn as_int(&self) -> Option<i32> {
         match self {
             Value::U8(number) => number.as_int(),

@@ -1,6 +1,6 @@
 use Rattle.std.proofs.Common.{take, ap, sym, ◌∙◌}
-use Rattle.sprintf.proofs.FieldText.{cut_is}
-use Rattle.sprintf.proofs.format.cut_to.Goals as goal
+use Rattle.sprintf.proofs.Cut.{cut_is}
+use Rattle.sprintf.proofs.field.cut_to.Goals as goal
 
 pub returns : goal.returns
 returns c =

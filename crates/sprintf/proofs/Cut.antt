@@ -1,27 +1,11 @@
--- What is written piece by piece is the text of a field.
-use Rattle.std.proofs.Common.{◌≡◌, ℕ, zero, suc, ◌+◌, ◌-◌, ◌<◌, ◌≤◌, ◌^◌, ◌⊎◌, inl, inr, Bool, true, false, cond, min, List, ◌++◌, length, get_or, replicate, refl, sym, ◌∙◌, subst, arith, append_assoc, IsCharBoundary}
+-- The front of a word that std cuts is the one of the definition.
+use Rattle.std.proofs.Common.{◌≡◌, ℕ, zero, suc, ◌<◌, ◌≤◌, ◌⊎◌, inl, inr, Bool, true, false, cond, min, List, length, get_or, refl, sym, ◌∙◌, subst, arith, IsCharBoundary}
 use Rattle.std.specs.Fmt.{is_char_start}
 use Rattle.std.specs.Fmt.Cut.{floor_char_boundary}
 use Rattle.std.proofs.lemmas.Bool.{cases_lt, true≢false}
 use Rattle.std.proofs.lemmas.Bool.Decides.{nat_tests}
 use Rattle.std.proofs.lemmas.Grind.{common_steps}
 use Rattle.std.proofs.lemmas.List.{get_or_past}
-use Rattle.numerals.specs.Numeral.{numeral}
-use Rattle.numerals.proofs.Unique.{length-numeral, length-numeral_is}
-use Rattle.sprintf.specs.declared.parser.ConversionSpecifier.{ConversionSpecifier}
-use Rattle.sprintf.specs.Field.{lead_of, zeros_of, trail_of, number_parts, text_of}
-
--- both cases of letters give numerals of one length
-pub length-numeral_case : (b n : ℕ) (upper : Bool) → 2 ≤ b → n < 2 ^ 128 → length (numeral b upper n) ≡ length (numeral b false n)
-length-numeral_case b n upper low fits =
-    let it = length-numeral b n false low fits in
-    sym (length-numeral_is b n upper it.0 low fits it.1) ∙ sym it.2
-
--- lead, sign, prefix, zeros, digits and trail, in a row
-pub number_written : (f : ConversionSpecifier) (width : ℕ) (sign prefix digits : List ℕ) (lead fill trail count : ℕ) → count ≡ length digits → lead ≡ lead_of f (width - (length sign + length prefix + count)) → fill ≡ zeros_of f (width - (length sign + length prefix + count)) → trail ≡ trail_of f (width - (length sign + length prefix + count)) → ((((replicate lead 32 ++ sign) ++ prefix) ++ replicate fill 48) ++ digits) ++ replicate trail 32 ≡ text_of (number_parts f width sign prefix digits)
-number_written f width sign prefix digits lead fill trail count c l z t = rw (l, z, t, c) (simp append_assoc)
-
--- ---- the cut of a word
 
 start_boundary : (bs : List ℕ) (i : ℕ) → i ≤ length bs → is_char_start (get_or bs i 0) ≡ true → IsCharBoundary bs i
 start_boundary bs i h e = (h, λ inside high. grind (arith, nat_tests, common_steps))
