@@ -1,5 +1,5 @@
--- What the private functions promise, which read a field from the front of a text and write one behind a text. Nothing public cites it.
-use Rattle.std.specs.Prelude.{◌≡◌, ◌||◌, ◌==◌, ℕ, pos, List, [], ◌∷◌, ◌++◌, length, take, drop, nat_le, if◌then◌else◌, Option, Some, None, unwrap_or, Ok}
+-- What the private functions promise, which read a field from the front of a text.
+use Rattle.std.specs.Prelude.{◌≡◌, ◌||◌, ◌==◌, ℕ, pos, List, [], ◌∷◌, ◌++◌, length, take, drop, nat_le, if◌then◌else◌, Option, Some, None, unwrap_or}
 use Rattle.std.specs.Borrow.{Bor}
 use Rattle.std.specs.Char.{is_ascii_digit}
 use Rattle.std.specs.List.{prefix_len}
@@ -13,8 +13,6 @@ use Rattle.sprintf.specs.declared.parser.FormatElement.TheVariants.{Verbatim}
 use Rattle.sprintf.specs.declared.parser.NumericParam.{NumericParam}
 use Rattle.sprintf.specs.declared.parser.NumericParam.TheVariants.{Literal, FromArgument}
 use Rattle.sprintf.specs.Grammar.{has, is_flag, letters_of, length_modifiers, default_precision}
-use Rattle.sprintf.specs.Meaning.{Meaning}
-use Rattle.sprintf.specs.Printed.{Taken}
 
 -- what was read goes on to the next step
 abbrev pub then_read : {A B : Type 0} → Option (A × List ℕ) → (A → List ℕ → Option B) → Option B
@@ -96,10 +94,6 @@ read_field text =
 -- a literal run, unless it is empty
 abbrev pub verbatim : Bor (List ℕ) → List FormatElement
 verbatim s = if length s.now == 0 then [] else Verbatim s ∷ []
-
--- a field's text was written behind the old text, and these values are left
-abbrev pub Prints : Taken (List ℕ) → List ℕ → List ℕ → List Meaning → Type 0
-Prints taken old new left = (text : List ℕ) × (taken ≡ Ok (text, left)) × (new ≡ old ++ text)
 
 -- the text begins with another one
 abbrev pub Starts : List ℕ → List ℕ → Type 0
