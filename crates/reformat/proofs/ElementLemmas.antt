@@ -5,7 +5,7 @@ use Rattle.std.specs.Fmt.{decimal}
 use Rattle.std.proofs.lemmas.Fmt.{decimal_injective}
 use Rattle.std.proofs.lemmas.List.{drop_more}
 use Rattle.std.proofs.lemmas.List.Elements.{recursion_from_All}
-use Rattle.sprintf.specs.Printed.{printed, take_field, onto}
+use Rattle.sprintf.specs.Printed.{printed, onto}
 use Rattle.sprintf.specs.declared.PrintfError.{PrintfError}
 use Rattle.sprintf.specs.declared.parser.ConversionSpecifier.{ConversionSpecifier}
 use Rattle.sprintf.specs.declared.parser.ConversionType.TheVariants.{PercentSign}
@@ -97,7 +97,7 @@ field_text : (f : ConversionSpecifier) (elements : List FormatElement) (numbers 
 field_text f elements [] line plain more fit e = absurd (cc)
 field_text f elements (n ∷ numbers) line plain more fit e =
     let step = map_some (λ t. decimal n ++ t) (piece_text (flat elements) numbers) line e in
-    then_is (take_field f (values_of (n ∷ numbers))) (decimal n) (values_of numbers) elements (field_takes f plain n (values_of numbers) fit.0)
+    then_is f (values_of (n ∷ numbers)) (values_of numbers) (decimal n) elements (field_takes f plain n (values_of numbers) fit.0)
     ∙ ap (λ (r : Result (List ℕ) PrintfError). onto (decimal n) r) (more numbers step.0 fit.1 step.1) ∙ ap Ok step.2
 
 pub text_of_flat : (elements : List FormatElement) (numbers line : List ℕ) → IsSeparated elements → Fit numbers → piece_text (flat elements) numbers ≡ Some line → printed elements (values_of numbers) ≡ Ok line
@@ -110,7 +110,7 @@ text_of_flat (Format f ∷ elements) numbers line apart fit e =
     elim apart.0 [
       | inl percent ↦
           let step = map_some (λ t. 37 ∷ t) (piece_text (flat elements) numbers) line (ap (λ (p : Piece). piece_text (p ∷ flat elements) numbers) (sym (percent_piece f percent)) ∙ e) in
-          then_is (take_field f (values_of numbers)) (37 ∷ []) (values_of numbers) elements (percent_takes f percent (values_of numbers))
+          then_is f (values_of numbers) (values_of numbers) (37 ∷ []) elements (percent_takes f percent (values_of numbers))
           ∙ ap (λ (r : Result (List ℕ) PrintfError). onto (37 ∷ []) r) (text_of_flat elements numbers step.0 apart.1 fit step.1) ∙ ap Ok step.2
       | inr plain ↦ field_text f elements numbers line plain.0 (λ ns l fits d. text_of_flat elements ns l apart.1 fits d) fit
           (ap (λ (p : Piece). piece_text (p ∷ flat elements) numbers) (sym (plain_piece f plain.0)) ∙ e)

@@ -1,8 +1,8 @@
+pub mod BufferLemmas
 pub mod RenderedLemmas
 pub mod WordLemmas
 pub mod AheadLemmas
 pub mod FoundLemmas
-pub mod ReachLemmas
 pub mod CallLemmas
 pub mod NextLemmas
 pub mod SplitLemmas

@@ -1,7 +1,7 @@
 // The words of a reader, across its lines.
 ghost use Rattle.whiteread.specs.Stream.{NextCall};
-ghost use Rattle.whiteread.specs.ReaderWords.{reader_stream};
-ghost use Rattle.whiteread.specs.ReaderSteps.{LooksInLine, BeginsIn, word_answer};
+ghost use Rattle.whiteread.specs.ReaderState.ReaderWords.{reader_stream};
+ghost use Rattle.whiteread.specs.Inner.ReaderSteps.{LooksInLine, BeginsIn, word_answer};
 
 use crate::reader::Reader;
 use crate::stream::{Result, StrStream, find_word};
@@ -12,7 +12,7 @@ impl<B: Source> Reader<B> {
     fn look(&mut self) -> Option<usize>
         ensures { LooksInLine self.old result self.new }
     {
-        let (start, end) = find_word(self.line.as_str(), self.passed);
+        let (start, end) = find_word(self.current_line(), self.passed);
         if start >= end {
             return None;
         }
@@ -22,7 +22,7 @@ impl<B: Source> Reader<B> {
 
     /// Passes the next word, and answers where it begins in its line.
     fn step(&mut self) -> Result<Option<usize>>
-        ensures call { NextCall (reader_stream B.rest B.given B.faults B.reference) self.old (word_answer result self.new) self.new }
+        ensures call { NextCall (reader_stream B.supply) self.old (word_answer result self.new) self.new }
         ensures begins { BeginsIn result self.new }
     {
         'lines: loop {
@@ -37,17 +37,17 @@ impl<B: Source> Reader<B> {
 }
 
 impl<B: Source> StrStream for Reader<B> {
-    ghost use Rattle.whiteread.specs.ReaderProofs.{reader_is_stream};
+    ghost use Rattle.whiteread.specs.Inner.ReaderProofs.{reader_is_stream};
 
-    ghost stream = { reader_stream B.rest B.given B.faults B.reference };
+    ghost stream = { reader_stream B.supply };
 
-    ghost is_stream = { reader_is_stream B.rest B.given B.faults B.reference };
+    ghost is_stream = { reader_is_stream B.supply };
 
     fn next(&mut self) -> Result<Option<&str>> {
         let Some(start) = self.step()? else {
             return Ok(None);
         };
         let end = self.passed;
-        Ok(Some(&self.line[start..end]))
+        Ok(Some(&self.current_line()[start..end]))
     }
 }
