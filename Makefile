@@ -43,8 +43,8 @@ test check:
 conformance: build/conformance
 	build/conformance <$(FILE)
 
-faults:
-	tools/refuse-allocations
+faults: build/reformat
+	tools/refuse-calls build/reformat $(NAME)
 
 install: build/reformat
 	install -d $(DESTDIR)$(PREFIX)/bin $(DESTDIR)$(PREFIX)/share/man/man1

@@ -21,6 +21,3 @@ pub use parser::parse;
 pub use renderer::Renderer;
 pub use template::Template;
 pub use value::{DebugStyle, FormatValue, Name, Shape};
-
-#[cfg(test)]
-mod tests;

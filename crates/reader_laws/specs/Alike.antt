@@ -22,10 +22,6 @@ abbrev pub GivesOne : {T : Type 0} → Likeness T → Relation T → Type 0
 GivesOne {T} alike reads = (words : Words) (one other : Result T Error) (rest left : Words) → reads words one rest → reads words other left
     → AnswersAlike alike one other × (rest ≡ left)
 
--- The same words get answers that are alike both ways, where neither way wants memory.
-abbrev pub AgreeAlike : {T : Type 0} → Likeness T → (Words → Result T Error → Type 0) → (Words → Result T Error → Type 0) → Type 0
-AgreeAlike {T} alike first second = (words : Words) (one other : Result T Error) → first words one → second words other → one ≢ Err NoMemory → other ≢ Err NoMemory → AnswersAlike alike one other
-
 -- Two values are one and the same.
 abbrev pub same : {T : Type 0} → Likeness T
 same one other = one ≡ other

@@ -7,8 +7,8 @@ use Rattle.std.proofs.lemmas.Bool.{false≢true}
 use mir.Syntax.{Width}
 use Rattle.whiteread.specs.Words.{Words}
 use Rattle.whiteread.specs.Reading.{Reading, Relation}
-use Rattle.whiteread.specs.Reads.{ReadsWord, unsigned, signed, boolean, any_word, FirstChar, character, nothing, optional}
-use Rattle.whiteread.specs.Tuples.{around, as_later, later, then, pair, triple, quadruple, quintuple, sextuple}
+use Rattle.whiteread.specs.Reading.Reads.{ReadsWord, unsigned, signed, boolean, any_word, FirstChar, character, nothing, optional}
+use Rattle.whiteread.specs.Reading.Tuples.{around, as_later, later, then, pair, triple, quadruple, quintuple, sextuple}
 use Rattle.whiteread.specs.declared.stream.error.Error.{Error}
 use Rattle.reader_laws.specs.Alike.{Likeness, AnswersAlike, GivesOne, same, same_text, options_alike, inside_alike, parts_alike, pairs_alike, triples_alike, quadruples_alike, quintuples_alike, sextuples_alike}
 

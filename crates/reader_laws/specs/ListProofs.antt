@@ -3,9 +3,9 @@ use Rattle.std.proofs.Common.{◌≡◌, ◌<◌, ℕ, List, [], ◌∷◌, leng
 use Rattle.std.proofs.lemmas.Bool.{false≢true}
 use Rattle.whiteread.specs.Words.{Words}
 use Rattle.whiteread.specs.Reading.{Reading, Relation}
-use Rattle.whiteread.specs.Reads.{ReadsEach, all_values}
-use Rattle.whiteread.specs.Tuples.{ReadsLater}
-use Rattle.whiteread.specs.Adapted.{one_skipped, all_skipped, ReadsCount, counted}
+use Rattle.whiteread.specs.Reading.Reads.{ReadsEach, all_values}
+use Rattle.whiteread.specs.Reading.Tuples.{ReadsLater}
+use Rattle.whiteread.specs.Reading.Adapted.{one_skipped, all_skipped, ReadsCount, counted}
 use Rattle.whiteread.specs.declared.stream.error.Error.{Error}
 use Rattle.reader_laws.specs.Alike.{Likeness, GivesOne, single, each_alike, inside_alike}
 use Rattle.reader_laws.specs.AlikeProofs.{moved, later_one, unsigned_one}

@@ -5,9 +5,9 @@ use Rattle.std.specs.List.{All}
 use Rattle.std.proofs.lemmas.List.Elements.{All-head, All-tail}
 use Rattle.whiteread.specs.Words.{Words}
 use Rattle.whiteread.specs.Reading.{Reading, Relation}
-use Rattle.whiteread.specs.Reads.{ReadsEach}
-use Rattle.whiteread.specs.Tuples.{as_later}
-use Rattle.whiteread.specs.Adapted.{reads_after, to_zero}
+use Rattle.whiteread.specs.Reading.Reads.{ReadsEach}
+use Rattle.whiteread.specs.Reading.Tuples.{as_later}
+use Rattle.whiteread.specs.Reading.Adapted.{reads_after, to_zero}
 use Rattle.whiteread.specs.declared.stream.error.Error.{Error}
 use Rattle.reader_laws.specs.Alike.{Likeness, GivesOne, SharesZero, same, same_text, each_alike, inside_alike, pairs_alike, triples_alike, quadruples_alike, quintuples_alike}
 use Rattle.reader_laws.specs.AlikeProofs.{moved}

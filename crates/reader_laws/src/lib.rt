@@ -3,5 +3,3 @@
 
 pub mod alike;
 pub mod laws;
-#[cfg(test)]
-mod tests;

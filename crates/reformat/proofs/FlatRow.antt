@@ -1,5 +1,5 @@
 -- What a format in the form prints over numbers is the text of its flat pieces.
-use Rattle.std.proofs.Common.{◌≡◌, ◌≢◌, ◌<◌, ◌^◌, ◌+◌, ◌-◌, ◌++◌, ℕ, pos, List, [], ◌∷◌, Option, Some, Result, Ok, Err, Bool, false, refl, sym, ap, ◌∙◌, subst, inl, inr, arith, length, replicate, append-nil}
+use Rattle.std.proofs.Common.{◌≡◌, ◌≢◌, ◌<◌, ◌^◌, ◌+◌, ◌-◌, ◌++◌, ℕ, pos, List, [], ◌∷◌, Option, Some, Result, Ok, Err, Bool, false, refl, sym, ap, ◌∙◌, subst, inl, inr, arith, length, replicate, encode_utf8_all}
 use Rattle.std.specs.Option.{option_map}
 use Rattle.std.specs.Fmt.{decimal}
 use Rattle.std.proofs.lemmas.List.Elements.{recursion_from_All}
@@ -82,14 +82,14 @@ record_is_plain alt zero left space plus width q t a b c d e f g = rw (a, b, c, 
 is_plain : (f : ConversionSpecifier) → IsPlain f → f ≡ plain f.precision
 is_plain f p = record_is_plain f.alt_form f.zero_pad f.left_adj f.space_sign f.force_sign f.width f.precision f.conversion_type p.no_prefix p.no_zeros p.no_minus p.no_space p.no_plus p.no_width p.conversion
 
-no_room : (room : ℕ) (digits : List ℕ) → room ≡ 0 → (replicate room 32 ++ digits) ++ [] ≡ digits
-no_room room digits none = rw none (append-nil digits)
+no_room : (room : ℕ) (digits : List ℕ) → room ≡ 0 → encode_utf8_all (replicate room 32) ++ [] ++ digits ≡ digits
+no_room room digits none = rw none refl
 
 plain_takes : (q : NumericParam) → q ≢ FromArgument → (n : ℕ) (values : List Meaning) → n < 2 ^ 64 → take_field (plain q) (unsigned_meaning n ∷ values) ≡ Ok (decimal n, values)
 plain_takes (Literal z) q n values small =
     let digits : List ℕ = numeral 10 false n in
-    let none : 0 - (0 + 0 + length digits) ≡ 0 = omega arith in
-    ap (λ (t : List ℕ). Ok (t, values)) (no_room (0 - (0 + 0 + length digits)) digits none ∙ numeral-decimal n small)
+    let none : 0 - (0 + length digits) ≡ 0 = omega arith in
+    ap (λ (t : List ℕ). Ok (t, values)) (no_room (0 - (0 + length digits)) digits none ∙ numeral-decimal n small)
 plain_takes FromArgument q n values small = absurd (q refl)
 
 plain_wants : (q : NumericParam) → q ≢ FromArgument → take_field (plain q) [] ≡ Err NotEnoughArgs

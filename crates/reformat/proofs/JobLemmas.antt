@@ -5,6 +5,7 @@ use Rattle.std.proofs.lemmas.List.{take_all, take-append-le}
 use Rattle.std.specs.Io.KnownBytes.{Appends, Consumes, IsAtEnd}
 use Rattle.std.proofs.KnownBytes.{Appends-trans, Appends-nil}
 use Rattle.edge_io.specs.Ends.{Rises, AppendsFront}
+use Rattle.edge_io.specs.Supply.{Supply}
 use Rattle.whiteread.specs.Lines.{lines_of, without_feed, HasNoFeed, IsFirstLine}
 use Rattle.whiteread.specs.LineCall.{TakesLine, PassesLimit, probe_len}
 use Rattle.whiteread.specs.ReaderState.{reader_source, reader_limit, reader_taken, reader_waiting, reader_line}
@@ -146,9 +147,9 @@ record Counts (w0 w1 line given0 given1 room0 room1 : ℕ) : Type 0 where
   gave : given1 ≡ given0 + got
   room : room0 ≡ got + room1
 
-counts : {B : Type 0} (rest : B → Option (List ℕ)) (given faults : B → ℕ) (before : ℕ) (old new : Reader B) (line : List ℕ) → Took rest given faults before old new line → reader_taken new ≤ reader_limit new
-    → Counts (length (reader_waiting old)) (length (reader_waiting new)) (length line) (given (reader_source old)) (given (reader_source new)) (reader_limit old - reader_taken old) (reader_limit new - reader_taken new)
-counts rest given faults before old new line took within = record {
+counts : {B : Type 0} (supply : Supply B) (before : ℕ) (old new : Reader B) (line : List ℕ) → Took supply before old new line → reader_taken new ≤ reader_limit new
+    → Counts (length (reader_waiting old)) (length (reader_waiting new)) (length line) (supply.given (reader_source old)) (supply.given (reader_source new)) (reader_limit old - reader_taken old) (reader_limit new - reader_taken new)
+counts supply before old new line took within = record {
   got = length took.takes.got;
   cut = sym (length-append (reader_waiting old) took.takes.got) ∙ ap length took.takes.cut ∙ length-append line (reader_waiting new);
   gave = took.takes.gave.count;
@@ -157,34 +158,34 @@ counts rest given faults before old new line took within = record {
 
 -- the clauses from a line on, of those of what follows it
 pub job_line : {B K : Type 0} (ends : Ends B K) (s t : Stage) (owed grown : List ℕ) (onto : List ℕ → List ℕ) (before : ℕ) (old new : Reader B) (source' : B) (output output' : K) (result : Result ℕ ReformatError) (line : List ℕ)
-    → Took ends.rest ends.given ends.faults before old new line → reader_line new ≡ line → reader_taken new ≤ reader_limit new
+    → Took ends.supply.rest ends.supply.given ends.supply.faults before old new line → reader_line new ≡ line → reader_taken new ≤ reader_limit new
     → ((text : List ℕ) → grown ++ text ≡ owed ++ onto text) → number_of t ≡ number_of s + 1
     → ((lines : List (List ℕ)) (text : List ℕ) → AreKeptFrom t lines text → AreKeptFrom s (without_feed line ∷ lines) (onto text))
     → ((e e' : Type 0) → (e → e') → (lines : List (List ℕ)) (text : List ℕ) (why : ReformatError) → RefusesFrom t e lines text why → RefusesFrom s e' (without_feed line ∷ lines) (onto text) why)
     → Job ends t grown (view_of new) source' output output' result → Job ends s owed (view_of old) source' output output' result
 job_line ends s t owed grown onto before old new source' output output' result line took current within same number kept refused job =
-    let takes : TakesLine ends.rest ends.given old new line = took.takes in
-    let n = counts ends.rest ends.given ends.faults before old new line took within in
+    let takes : TakesLine ends.supply.rest ends.supply.given old new line = took.takes in
+    let n = counts ends.supply.rest ends.supply.given ends.supply.faults before old new line took within in
     let w0 : List ℕ = reader_waiting old in
     let w1 : List ℕ = reader_waiting new in
     let l0 : ℕ = length w0 + (reader_limit old - reader_taken old) in
     let l1 : ℕ = length w1 + (reader_limit new - reader_taken new) in
     let reach : l0 ≡ length line + l1 = omega (arith, n.cut, n.room) in
-    let seen0 : ℕ = length w0 + (ends.given source' - ends.given (reader_source old)) in
-    let seen1 : ℕ = length w1 + (ends.given source' - ends.given (reader_source new)) in
+    let seen0 : ℕ = length w0 + (ends.supply.given source' - ends.supply.given (reader_source old)) in
+    let seen1 : ℕ = length w1 + (ends.supply.given source' - ends.supply.given (reader_source new)) in
     let see : seen0 ≡ length line + seen1 = omega (arith, n.cut, n.gave, job.grows) in
     record {
-      rewritten = on_ok result (moves (ends.rest (reader_source old)) (ends.rest (reader_source new)) w0 w1 line takes.got
-          (λ bytes. IsAtEnd (ends.rest source') × Grew t grown (ends.held output) (ends.held output') (lines_of bytes))
-          (λ bytes. IsAtEnd (ends.rest source') × Grew s owed (ends.held output) (ends.held output') (lines_of bytes))
+      rewritten = on_ok result (moves (ends.supply.rest (reader_source old)) (ends.supply.rest (reader_source new)) w0 w1 line takes.got
+          (λ bytes. IsAtEnd (ends.supply.rest source') × Grew t grown (ends.held output) (ends.held output') (lines_of bytes))
+          (λ bytes. IsAtEnd (ends.supply.rest source') × Grew s owed (ends.held output) (ends.held output') (lines_of bytes))
           takes.gave.bytes takes.cut takes.first takes.unended
           (λ bytes first here. (here.0, grew s t owed grown onto (ends.held output) (ends.held output') (without_feed line) (lines_of bytes) (lines_of (line ++ bytes)) same kept (lines_first line bytes first) here.1))) job.rewritten;
-      rows = if_ok result _ _ (λ m. moves (ends.rest (reader_source old)) (ends.rest (reader_source new)) w0 w1 line takes.got
+      rows = if_ok result _ _ (λ m. moves (ends.supply.rest (reader_source old)) (ends.supply.rest (reader_source new)) w0 w1 line takes.got
           (λ bytes. (number_of t + length (lines_of bytes) ≡ m + 5) × (length bytes ≤ l1))
           (λ bytes. (number_of s + length (lines_of bytes) ≡ m + 5) × (length bytes ≤ l0))
           takes.gave.bytes takes.cut takes.first takes.unended
           (λ bytes first here. (omega (arith, here.0, number, ap length (lines_first line bytes first)), omega (arith, here.1, reach, length-append line bytes)))) job.rows;
-      refused = if_err result _ _ (λ why before_ of_lines. moves (ends.rest (reader_source old)) (ends.rest (reader_source new)) w0 w1 line takes.got
+      refused = if_err result _ _ (λ why before_ of_lines. moves (ends.supply.rest (reader_source old)) (ends.supply.rest (reader_source new)) w0 w1 line takes.got
           (λ bytes. (text : List ℕ) × RefusesFrom t (IsEndReached l1 bytes) (reached_lines l1 bytes) text why × Appends (ends.held output) (ends.held output') (grown ++ text))
           (λ bytes. (text : List ℕ) × RefusesFrom s (IsEndReached l0 bytes) (reached_lines l0 bytes) text why × Appends (ends.held output) (ends.held output') (owed ++ text))
           takes.gave.bytes takes.cut takes.first takes.unended
@@ -194,12 +195,12 @@ job_line ends s t owed grown onto before old new source' output output' result l
                 (refused (IsEndReached l1 bytes) (IsEndReached l0 (line ++ bytes)) (λ le. omega (arith, le, reach, length-append line bytes)) (reached_lines l1 bytes) here.0 why here.1),
             subst (λ (o : List ℕ). Appends (ends.held output) (ends.held output') o) (same here.0) here.2,
           )) (before_ of_lines)) job.refused;
-      too_long = λ e. (let h : ends.given source' ≡ ends.given (reader_source new) + (reader_limit new - reader_taken new) + 1 = job.too_long e in omega (arith, h, n.gave, n.room));
+      too_long = λ e. (let h : ends.supply.given source' ≡ ends.supply.given (reader_source new) + (reader_limit new - reader_taken new) + 1 = job.too_long e in omega (arith, h, n.gave, n.room));
       within = elim job.within [
         | inl e ↦ inl e
         | inr h ↦ inr (omega (arith, h, n.gave, n.room))
       ];
-      past_limit = λ e. moves (ends.rest (reader_source old)) (ends.rest (reader_source new)) w0 w1 line takes.got
+      past_limit = λ e. moves (ends.supply.rest (reader_source old)) (ends.supply.rest (reader_source new)) w0 w1 line takes.got
           (λ bytes. (l1 < length bytes) × Grew t grown (ends.held output) (ends.held output') (ended_lines l1 bytes))
           (λ bytes. (l0 < length bytes) × Grew s owed (ends.held output) (ends.held output') (ended_lines l0 bytes))
           takes.gave.bytes takes.cut takes.first takes.unended
@@ -208,8 +209,8 @@ job_line ends s t owed grown onto before old new source' output output' result l
             grew s t owed grown onto (ends.held output) (ends.held output') (without_feed line) (ended_lines l1 bytes) (ended_lines l0 (line ++ bytes)) same kept
                 (ended_first line bytes l0 l1 (whole_if_closed line bytes first (subst (λ (l : List ℕ). ¬ IsOpen l) current (job.more (inr e)))) reach) here.1,
           )) (job.past_limit e);
-      read_fault = λ e. (let h : Rises (ends.faults (reader_source new)) (ends.faults source') = job.read_fault e in subst (λ (f : ℕ). Rises f (ends.faults source')) took.still h);
-      after_read_fault = λ e. moves (ends.rest (reader_source old)) (ends.rest (reader_source new)) w0 w1 line takes.got
+      read_fault = λ e. (let h : Rises (ends.supply.faults (reader_source new)) (ends.supply.faults source') = job.read_fault e in subst (λ (f : ℕ). Rises f (ends.supply.faults source')) took.still h);
+      after_read_fault = λ e. moves (ends.supply.rest (reader_source old)) (ends.supply.rest (reader_source new)) w0 w1 line takes.got
           (λ bytes. Grew t grown (ends.held output) (ends.held output') (ended_lines seen1 bytes))
           (λ bytes. Grew s owed (ends.held output) (ends.held output') (ended_lines seen0 bytes))
           takes.gave.bytes takes.cut takes.first takes.unended
@@ -221,7 +222,7 @@ job_line ends s t owed grown onto before old new source' output output' result l
       ];
       write_fault = job.write_fault;
       writes = job.writes;
-      stopped = λ e. moves (ends.rest (reader_source old)) (ends.rest (reader_source new)) w0 w1 line takes.got
+      stopped = λ e. moves (ends.supply.rest (reader_source old)) (ends.supply.rest (reader_source new)) w0 w1 line takes.got
           (λ bytes. GrewSome t grown (ends.held output) (ends.held output') (reached_lines l1 bytes))
           (λ bytes. GrewSome s owed (ends.held output) (ends.held output') (reached_lines l0 bytes))
           takes.gave.bytes takes.cut takes.first takes.unended
@@ -241,32 +242,32 @@ job_sent ends s owed old source' output mid output' result sent still job =
     let grows_on : (lines : List (List ℕ)) → Grew s [] (ends.held mid) (ends.held output') lines → Grew s owed (ends.held output) (ends.held output') lines =
     λ lines here. (here.0, here.1, on here.0 here.2) in
     record {
-      rewritten = on_ok result (maps (ends.rest old.source) _ _ (λ bytes here. (here.0, grows_on (lines_of (old.waiting ++ bytes)) here.1))) job.rewritten;
+      rewritten = on_ok result (maps (ends.supply.rest old.source) _ _ (λ bytes here. (here.0, grows_on (lines_of (old.waiting ++ bytes)) here.1))) job.rewritten;
       rows = job.rows;
-      refused = if_err result _ _ (λ why before_ of_lines. maps (ends.rest old.source) _ _ (λ bytes here. (here.0, here.1, on here.0 here.2)) (before_ of_lines)) job.refused;
+      refused = if_err result _ _ (λ why before_ of_lines. maps (ends.supply.rest old.source) _ _ (λ bytes here. (here.0, here.1, on here.0 here.2)) (before_ of_lines)) job.refused;
       too_long = job.too_long;
       within = job.within;
-      past_limit = λ e. maps (ends.rest old.source) _ _ (λ bytes here. (here.0, grows_on (ended_lines (left old) (old.waiting ++ bytes)) here.1)) (job.past_limit e);
+      past_limit = λ e. maps (ends.supply.rest old.source) _ _ (λ bytes here. (here.0, grows_on (ended_lines (left old) (old.waiting ++ bytes)) here.1)) (job.past_limit e);
       read_fault = job.read_fault;
-      after_read_fault = λ e. maps (ends.rest old.source) _ _ (λ bytes here. grows_on (ended_lines (length old.waiting + (ends.given source' - ends.given old.source)) (old.waiting ++ bytes)) here) (job.after_read_fault e);
+      after_read_fault = λ e. maps (ends.supply.rest old.source) _ _ (λ bytes here. grows_on (ended_lines (length old.waiting + (ends.supply.given source' - ends.supply.given old.source)) (old.waiting ++ bytes)) here) (job.after_read_fault e);
       reads = job.reads;
       write_fault = λ e. subst (λ (f : ℕ). Rises f (ends.sink_faults output')) still (job.write_fault e);
       writes = elim job.writes [
         | inl e ↦ inl e
         | inr h ↦ inr (h ∙ still)
       ];
-      stopped = λ e. maps (ends.rest old.source) _ _ (λ bytes here. (here.0, here.1, here.2, (here.3.0, here.3.1, front_after (ends.held output) (ends.held mid) (ends.held output') owed here.3.0 sent here.3.2))) (job.stopped e);
+      stopped = λ e. maps (ends.supply.rest old.source) _ _ (λ bytes here. (here.0, here.1, here.2, (here.3.0, here.3.1, front_after (ends.held output) (ends.held mid) (ends.held output') owed here.3.0 sent here.3.2))) (job.stopped e);
       grows = job.grows;
       more = job.more;
     }
 
 -- no line is left after the rows
-pub job_done : {B K : Type 0} (ends : Ends B K) (s : Stage) (old new : Reader B) (output : K) (n : ℕ) → Ended ends.rest ends.given ends.faults old new → number_of s ≡ n + 5
+pub job_done : {B K : Type 0} (ends : Ends B K) (s : Stage) (old new : Reader B) (output : K) (n : ℕ) → Ended ends.supply.rest ends.supply.given ends.supply.faults old new → number_of s ≡ n + 5
     → Job ends s [] (view_of old) (reader_source new) output output (Ok n)
 job_done ends s old new output n ended number = record {
-  rewritten = none_is (ends.rest (reader_source old)) (ends.rest (reader_source new)) (reader_waiting old) (λ bytes. IsAtEnd (ends.rest (reader_source new)) × Grew s [] (ends.held output) (ends.held output) (lines_of bytes))
+  rewritten = none_is (ends.supply.rest (reader_source old)) (ends.supply.rest (reader_source new)) (reader_waiting old) (λ bytes. IsAtEnd (ends.supply.rest (reader_source new)) × Grew s [] (ends.held output) (ends.held output) (lines_of bytes))
       ended.gave.bytes ended.none ended.end (ended.end, ([], none_kept s, Appends-nil (ends.held output)));
-  rows = none_is (ends.rest (reader_source old)) (ends.rest (reader_source new)) (reader_waiting old) (λ bytes. (number_of s + length (lines_of bytes) ≡ n + 5) × (length bytes ≤ left (view_of old)))
+  rows = none_is (ends.supply.rest (reader_source old)) (ends.supply.rest (reader_source new)) (reader_waiting old) (λ bytes. (number_of s + length (lines_of bytes) ≡ n + 5) × (length bytes ≤ left (view_of old)))
       ended.gave.bytes ended.none ended.end (omega (arith, number), omega arith);
   refused = tt;
   too_long = λ e. absurd (cc);
@@ -283,14 +284,14 @@ job_done ends s old new output n ended number = record {
 }
 
 -- a header line is missing
-pub job_missing : {B K : Type 0} (ends : Ends B K) (s : Stage) (old new : Reader B) (output : K) (why : ReformatError) → Ended ends.rest ends.given ends.faults old new
+pub job_missing : {B K : Type 0} (ends : Ends B K) (s : Stage) (old new : Reader B) (output : K) (why : ReformatError) → Ended ends.supply.rest ends.supply.given ends.supply.faults old new
     → IsOfLines why → ((e : Type 0) → e → RefusesFrom s e [] [] why) → Job ends s [] (view_of old) (reader_source new) output output (Err why)
 job_missing ends s old new output why ended of_lines bad =
     let l0 : ℕ = left (view_of old) in
     record {
       rewritten = tt;
       rows = tt;
-      refused = λ _. none_is (ends.rest (reader_source old)) (ends.rest (reader_source new)) (reader_waiting old)
+      refused = λ _. none_is (ends.supply.rest (reader_source old)) (ends.supply.rest (reader_source new)) (reader_waiting old)
           (λ bytes. (text : List ℕ) × RefusesFrom s (IsEndReached l0 bytes) (reached_lines l0 bytes) text why × Appends (ends.held output) (ends.held output) ([] ++ text))
           ended.gave.bytes ended.none ended.end
           ([], subst (λ (ls : List (List ℕ)). RefusesFrom s (IsEndReached l0 []) ls [] why) (sym (reached_all l0 [] (omega arith))) (bad (IsEndReached l0 []) (omega arith)), Appends-nil (ends.held output));
@@ -309,20 +310,20 @@ job_missing ends s old new output why ended of_lines bad =
 
 -- a line is refused, after what was owed was written
 pub job_refused : {B K : Type 0} (ends : Ends B K) (s : Stage) (owed : List ℕ) (before : ℕ) (old new : Reader B) (output output' : K) (why : ReformatError) (line : List ℕ)
-    → Took ends.rest ends.given ends.faults before old new line → reader_taken new ≤ reader_limit new → IsOfLines why
+    → Took ends.supply.rest ends.supply.given ends.supply.faults before old new line → reader_taken new ≤ reader_limit new → IsOfLines why
     → ((e : Type 0) (lines : List (List ℕ)) → RefusesFrom s e (without_feed line ∷ lines) [] why)
     → Appends (ends.held output) (ends.held output') owed → ends.sink_faults output' ≡ ends.sink_faults output
     → Job ends s owed (view_of old) (reader_source new) output output' (Err why)
 job_refused ends s owed before old new output output' why line took within of_lines bad sent still =
-    let takes : TakesLine ends.rest ends.given old new line = took.takes in
-    let n = counts ends.rest ends.given ends.faults before old new line took within in
+    let takes : TakesLine ends.supply.rest ends.supply.given old new line = took.takes in
+    let n = counts ends.supply.rest ends.supply.given ends.supply.faults before old new line took within in
     let l0 : ℕ = left (view_of old) in
     let l1 : ℕ = left (view_of new) in
     let reach : l0 ≡ length line + l1 = omega (arith, n.cut, n.room) in
     record {
       rewritten = tt;
       rows = tt;
-      refused = λ _. line_is (ends.rest (reader_source old)) (ends.rest (reader_source new)) (reader_waiting old) (reader_waiting new) line takes.got
+      refused = λ _. line_is (ends.supply.rest (reader_source old)) (ends.supply.rest (reader_source new)) (reader_waiting old) (reader_waiting new) line takes.got
           (λ bytes. (text : List ℕ) × RefusesFrom s (IsEndReached l0 bytes) (reached_lines l0 bytes) text why × Appends (ends.held output) (ends.held output') (owed ++ text))
           takes.gave.bytes takes.cut takes.first takes.unended
           (λ bytes first. (
@@ -345,13 +346,13 @@ job_refused ends s owed before old new output output' why line took within of_li
     }
 
 -- a read failed, and nothing was owed
-pub job_failed : {B K : Type 0} (ends : Ends B K) (s : Stage) (old new : Reader B) (output : K) → Failed ends.rest ends.given ends.faults old new → reader_taken new ≤ reader_limit new
+pub job_failed : {B K : Type 0} (ends : Ends B K) (s : Stage) (old new : Reader B) (output : K) → Failed ends.supply.rest ends.supply.given ends.supply.faults old new → reader_taken new ≤ reader_limit new
     → Job ends s [] (view_of old) (reader_source new) output output (Err ReadFault)
 job_failed ends s old new output failed within =
     let w0 : List ℕ = reader_waiting old in
     let w1 : List ℕ = reader_waiting new in
     let long : length w1 ≡ length w0 + length failed.waits.got = ap length failed.waits.waits ∙ length-append w0 failed.waits.got in
-    let seen : ℕ = length w0 + (ends.given (reader_source new) - ends.given (reader_source old)) in
+    let seen : ℕ = length w0 + (ends.supply.given (reader_source new) - ends.supply.given (reader_source old)) in
     let see : seen ≡ length w1 = omega (arith, long, failed.waits.gave.count) in
     record {
       rewritten = tt;
@@ -361,7 +362,7 @@ job_failed ends s old new output failed within =
       within = inr (omega (arith, failed.waits.gave.count, failed.waits.taken, failed.limit, within));
       past_limit = λ e. absurd (cc);
       read_fault = λ e. failed.rose;
-      after_read_fault = λ e. waits_is (ends.rest (reader_source old)) (ends.rest (reader_source new)) w0 w1 failed.waits.got (λ bytes. Grew s [] (ends.held output) (ends.held output) (ended_lines seen bytes))
+      after_read_fault = λ e. waits_is (ends.supply.rest (reader_source old)) (ends.supply.rest (reader_source new)) w0 w1 failed.waits.got (λ bytes. Grew s [] (ends.held output) (ends.held output) (ended_lines seen bytes))
           failed.waits.gave.bytes failed.waits.waits
           (λ bytes. ([], subst (λ (ls : List (List ℕ)). AreKeptFrom s ls []) (sym (ended_none w1 bytes seen failed.no_feed see)) (none_kept s), Appends-nil (ends.held output)));
       reads = inl refl;
@@ -373,15 +374,15 @@ job_failed ends s old new output failed within =
     }
 
 -- the limit was passed, and nothing was owed
-pub job_passed : {B K : Type 0} (ends : Ends B K) (s : Stage) (old new : Reader B) (output : K) → Passed ends.rest ends.given ends.faults old new
+pub job_passed : {B K : Type 0} (ends : Ends B K) (s : Stage) (old new : Reader B) (output : K) → Passed ends.supply.rest ends.supply.given ends.supply.faults old new
     → Job ends s [] (view_of old) (reader_source new) output output (Err TooLong)
 job_passed ends s old new output passed =
-    let p : PassesLimit ends.rest ends.given old new = passed.passes in
+    let p : PassesLimit ends.supply.rest ends.supply.given old new = passed.passes in
     let w0 : List ℕ = reader_waiting old in
     let w1 : List ℕ = reader_waiting new in
     let long : length w1 ≡ length w0 + length p.got = ap length p.waits ∙ length-append w0 p.got in
     let one : length p.probe ≡ 1 = p.probed ∙ ap probe_len passed.unprobed in
-    let given : ends.given (reader_source new) ≡ ends.given (reader_source old) + (length p.got + length p.probe) = p.gave.count ∙ ap (λ (k : ℕ). ends.given (reader_source old) + k) (length-append p.got p.probe) in
+    let given : ends.supply.given (reader_source new) ≡ ends.supply.given (reader_source old) + (length p.got + length p.probe) = p.gave.count ∙ ap (λ (k : ℕ). ends.supply.given (reader_source old) + k) (length-append p.got p.probe) in
     let l0 : ℕ = left (view_of old) in
     let reach : l0 ≡ length w1 = omega (arith, long, p.taken, p.full, passed.limit) in
     record {
@@ -390,7 +391,7 @@ job_passed ends s old new output passed =
       refused = λ h. absurd h;
       too_long = λ e. omega (arith, given, one, p.taken, p.full, passed.limit);
       within = inl refl;
-      past_limit = λ e. passes_is (ends.rest (reader_source old)) (ends.rest (reader_source new)) w0 w1 p.got p.probe
+      past_limit = λ e. passes_is (ends.supply.rest (reader_source old)) (ends.supply.rest (reader_source new)) w0 w1 p.got p.probe
           (λ bytes. (l0 < length bytes) × Grew s [] (ends.held output) (ends.held output) (ended_lines l0 bytes)) p.gave.bytes p.waits
           (λ bytes. (
             omega (arith, reach, one, length-append w1 (p.probe ++ bytes), length-append p.probe bytes),
@@ -407,7 +408,7 @@ job_passed ends s old new output passed =
     }
 
 -- there was no memory
-pub job_starved : {B K : Type 0} (ends : Ends B K) (s : Stage) (owed : List ℕ) (old new : Reader B) (output : K) → Quiet ends.given ends.faults old new
+pub job_starved : {B K : Type 0} (ends : Ends B K) (s : Stage) (owed : List ℕ) (old new : Reader B) (output : K) → Quiet ends.supply.given ends.supply.faults old new
     → Job ends s owed (view_of old) (reader_source new) output output (Err NoMemory)
 job_starved ends s owed old new output quiet = record {
   rewritten = tt;
@@ -421,14 +422,14 @@ job_starved ends s owed old new output quiet = record {
   reads = inr quiet.still;
   write_fault = λ e. absurd (cc);
   writes = inr refl;
-  stopped = λ e. any_is (ends.rest (reader_source old)) (λ bytes. GrewSome s owed (ends.held output) (ends.held output) (reached_lines (left (view_of old)) (reader_waiting old ++ bytes)))
+  stopped = λ e. any_is (ends.supply.rest (reader_source old)) (λ bytes. GrewSome s owed (ends.held output) (ends.held output) (reached_lines (left (view_of old)) (reader_waiting old ++ bytes)))
       (λ bytes. ([], reached_lines (left (view_of old)) (reader_waiting old ++ bytes), refl, ([], none_kept s, no_front (ends.held output) (owed ++ []))));
   grows = quiet.grows;
   more = λ e. elim e [ inl w ↦ absurd (cc) | inr w ↦ absurd (cc) ];
 }
 
 -- what was owed was not written
-pub job_unsent : {B K : Type 0} (ends : Ends B K) (s : Stage) (owed : List ℕ) (old new : Reader B) (output output' : K) → Quiet ends.given ends.faults old new
+pub job_unsent : {B K : Type 0} (ends : Ends B K) (s : Stage) (owed : List ℕ) (old new : Reader B) (output output' : K) → Quiet ends.supply.given ends.supply.faults old new
     → Rises (ends.sink_faults output) (ends.sink_faults output') → AppendsFront (ends.held output) (ends.held output') owed
     → Job ends s owed (view_of old) (reader_source new) output output' (Err WriteFault)
 job_unsent ends s owed old new output output' quiet rose front = record {
@@ -443,7 +444,7 @@ job_unsent ends s owed old new output output' quiet rose front = record {
   reads = inr quiet.still;
   write_fault = λ e. rose;
   writes = inl refl;
-  stopped = λ e. any_is (ends.rest (reader_source old)) (λ bytes. GrewSome s owed (ends.held output) (ends.held output') (reached_lines (left (view_of old)) (reader_waiting old ++ bytes)))
+  stopped = λ e. any_is (ends.supply.rest (reader_source old)) (λ bytes. GrewSome s owed (ends.held output) (ends.held output') (reached_lines (left (view_of old)) (reader_waiting old ++ bytes)))
       (λ bytes. ([], reached_lines (left (view_of old)) (reader_waiting old ++ bytes), refl, ([], none_kept s, some_front (ends.held output) (ends.held output') owed [] front)));
   grows = quiet.grows;
   more = λ e. elim e [ inl w ↦ absurd (cc) | inr w ↦ absurd (cc) ];

@@ -78,7 +78,7 @@ missing_next (rows_next source template number) header e end = absurd header
 
 -- the header line was refused
 pub header_refused : {B K : Type 0} (ends : Ends B K) (stage : Stage) (before : ℕ) (old new : Reader B) (output : K) (why : ReformatError) (line : List ℕ)
-    → Took ends.rest ends.given ends.faults before old new line → reader_taken new ≤ reader_limit new → RefusesNext stage (without_feed line) why
+    → Took ends.supply.rest ends.supply.given ends.supply.faults before old new line → reader_taken new ≤ reader_limit new → RefusesNext stage (without_feed line) why
     → Job ends stage [] (view_of old) (reader_source new) output output (Err why)
 header_refused ends stage before old new output why line took within bad =
     job_refused ends stage [] before old new output output why line took within (next_of_lines stage (without_feed line) why bad) (next_refuses stage (without_feed line) why bad)
@@ -86,30 +86,30 @@ header_refused ends stage before old new output why line took within bad =
 
 -- or there was no memory for it
 pub header_starved : {B K : Type 0} (ends : Ends B K) (stage : Stage) (before : ℕ) (old new : Reader B) (output : K) (line : List ℕ)
-    → Took ends.rest ends.given ends.faults before old new line → reader_taken new ≤ reader_limit new → Job ends stage [] (view_of old) (reader_source new) output output (Err NoMemory)
-header_starved ends stage before old new output line took within = job_starved ends stage [] old new output (quiet_took ends.rest ends.given ends.faults before old new line took within)
+    → Took ends.supply.rest ends.supply.given ends.supply.faults before old new line → reader_taken new ≤ reader_limit new → Job ends stage [] (view_of old) (reader_source new) output output (Err NoMemory)
+header_starved ends stage before old new output line took within = job_starved ends stage [] old new output (quiet_took ends.supply.rest ends.supply.given ends.supply.faults before old new line took within)
 
 pub header_refused_or_starved : {B K : Type 0} (ends : Ends B K) (stage : Stage) (before : ℕ) (old new : Reader B) (output : K) (why : ReformatError) (line : List ℕ)
-    → Took ends.rest ends.given ends.faults before old new line → reader_taken new ≤ reader_limit new → RefusesNext stage (without_feed line) why ⊎ (why ≡ NoMemory)
+    → Took ends.supply.rest ends.supply.given ends.supply.faults before old new line → reader_taken new ≤ reader_limit new → RefusesNext stage (without_feed line) why ⊎ (why ≡ NoMemory)
     → Job ends stage [] (view_of old) (reader_source new) output output (Err why)
 header_refused_or_starved ends stage before old new output why line took within (inl bad) = header_refused ends stage before old new output why line took within bad
 header_refused_or_starved ends stage before old new output why line took within (inr none) =
     subst (λ (e : ReformatError). Job ends stage [] (view_of old) (reader_source new) output output (Err e)) (sym none) (header_starved ends stage before old new output line took within)
 
 -- it was missing
-pub header_missing : {B K : Type 0} (ends : Ends B K) (stage : Stage) (old new : Reader B) (output : K) → IsHeader stage → Ended ends.rest ends.given ends.faults old new
+pub header_missing : {B K : Type 0} (ends : Ends B K) (stage : Stage) (old new : Reader B) (output : K) → IsHeader stage → Ended ends.supply.rest ends.supply.given ends.supply.faults old new
     → Job ends stage [] (view_of old) (reader_source new) output output (Err (Header (number_of stage)))
 header_missing ends stage old new output header ended = job_missing ends stage old new output (Header (number_of stage)) ended tt (missing_next stage header)
 
 -- it was not read
 pub header_unread : {B K : Type 0} (ends : Ends B K) (stage : Stage) (before : ℕ) (old new : Reader B) (output : K) (why : ReformatError) → IsHeader stage → number_of stage ≡ before + 1
-    → reader_taken new ≤ reader_limit new → NextLine ends.rest ends.given ends.faults before old (Err why) new → Job ends stage [] (view_of old) (reader_source new) output output (Err why)
+    → reader_taken new ≤ reader_limit new → NextLine ends.supply.rest ends.supply.given ends.supply.faults before old (Err why) new → Job ends stage [] (view_of old) (reader_source new) output output (Err why)
 header_unread ends stage before old new output ReadFault header number within next = job_failed ends stage old new output next within
 header_unread ends stage before old new output TooLong header number within next = job_passed ends stage old new output next
-header_unread ends stage before old new output NoMemory header number within next = job_starved ends stage [] old new output (quiet_starved ends.rest ends.given ends.faults old new next within)
+header_unread ends stage before old new output NoMemory header number within next = job_starved ends stage [] old new output (quiet_starved ends.supply.rest ends.supply.given ends.supply.faults old new next within)
 header_unread ends stage before old new output (NotUtf8 wanted) header number within next =
     let line : List ℕ = next.0 in
-    let took : Took ends.rest ends.given ends.faults before old new line = next.1 in
+    let took : Took ends.supply.rest ends.supply.given ends.supply.faults before old new line = next.1 in
     let bad : ¬ IsUtf8 (without_feed line) = λ utf8. next.2 (utf8_whole line (reader_waiting new) took.takes.first utf8) in
     let same : number_of stage ≡ wanted = number ∙ sym next.3 in
     header_refused ends stage before old new output (NotUtf8 wanted) line took within
@@ -141,28 +141,28 @@ from_source_ends e e' f kinds (line ∷ lines) text why (inr bad) = inr (bad.0, 
 -- the header line was kept
 
 pub after_kinds : {B K : Type 0} (ends : Ends B K) (old new : Reader B) (source' : B) (output output' : K) (result : Result ℕ ReformatError) (kinds : ℕ)
-    → Took ends.rest ends.given ends.faults 0 old new (reader_line new) → reader_taken new ≤ reader_limit new → IsKindsLine (without_feed (reader_line new)) kinds
+    → Took ends.supply.rest ends.supply.given ends.supply.faults 0 old new (reader_line new) → reader_taken new ≤ reader_limit new → IsKindsLine (without_feed (reader_line new)) kinds
     → Job ends (source_next kinds) [] (view_of new) source' output output' result → Job ends kinds_next [] (view_of old) source' output output' result
 after_kinds ends old new source' output output' result kinds took within kept job =
     job_line ends kinds_next (source_next kinds) [] [] (λ t. t) 0 old new source' output output' result (reader_line new) took refl within (λ t. refl) refl
     (λ lines text more. (kinds, kept, more)) (λ e e' f lines text why bad. inr (kinds, kept, from_source_ends e e' f kinds lines text why bad)) job
 
 pub after_source : {B K : Type 0} (ends : Ends B K) (old new : Reader B) (source' : B) (output output' : K) (result : Result ℕ ReformatError) (kinds : ℕ) (source : List FormatElement)
-    → Took ends.rest ends.given ends.faults 1 old new (reader_line new) → reader_taken new ≤ reader_limit new → IsSourceLine kinds (without_feed (reader_line new)) source
+    → Took ends.supply.rest ends.supply.given ends.supply.faults 1 old new (reader_line new) → reader_taken new ≤ reader_limit new → IsSourceLine kinds (without_feed (reader_line new)) source
     → Job ends (dialect_next source) [] (view_of new) source' output output' result → Job ends (source_next kinds) [] (view_of old) source' output output' result
 after_source ends old new source' output output' result kinds source took within kept job =
     job_line ends (source_next kinds) (dialect_next source) [] [] (λ t. t) 1 old new source' output output' result (reader_line new) took refl within (λ t. refl) refl
     (λ lines text more. (source, kept, more)) (λ e e' f lines text why bad. inr (source, kept, from_dialect_ends e e' f source lines text why bad)) job
 
 pub after_dialect : {B K : Type 0} (ends : Ends B K) (old new : Reader B) (source' : B) (output output' : K) (result : Result ℕ ReformatError) (source : List FormatElement)
-    → Took ends.rest ends.given ends.faults 2 old new (reader_line new) → reader_taken new ≤ reader_limit new → IsDialectLine (without_feed (reader_line new))
+    → Took ends.supply.rest ends.supply.given ends.supply.faults 2 old new (reader_line new) → reader_taken new ≤ reader_limit new → IsDialectLine (without_feed (reader_line new))
     → Job ends (template_next source) [] (view_of new) source' output output' result → Job ends (dialect_next source) [] (view_of old) source' output output' result
 after_dialect ends old new source' output output' result source took within kept job =
     job_line ends (dialect_next source) (template_next source) [] [] (λ t. t) 2 old new source' output output' result (reader_line new) took refl within (λ t. refl) refl
     (λ lines text more. (kept, more)) (λ e e' f lines text why bad. inr (kept, from_template_ends e e' f source lines text why bad)) job
 
 pub after_template : {B K : Type 0} (ends : Ends B K) (old new : Reader B) (source' : B) (output output' : K) (result : Result ℕ ReformatError) (source template : List FormatElement)
-    → Took ends.rest ends.given ends.faults 3 old new (reader_line new) → reader_taken new ≤ reader_limit new → IsTemplateLine (without_feed (reader_line new)) template
+    → Took ends.supply.rest ends.supply.given ends.supply.faults 3 old new (reader_line new) → reader_taken new ≤ reader_limit new → IsTemplateLine (without_feed (reader_line new)) template
     → Job ends (rows_next source template 5) [] (view_of new) source' output output' result → Job ends (template_next source) [] (view_of old) source' output output' result
 after_template ends old new source' output output' result source template took within kept job =
     job_line ends (template_next source) (rows_next source template 5) [] [] (λ t. t) 3 old new source' output output' result (reader_line new) took refl within (λ t. refl) refl

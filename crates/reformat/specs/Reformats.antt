@@ -4,6 +4,7 @@ use Rattle.std.specs.Io.KnownBytes.{Appends, IsAtEnd}
 use Rattle.edge_io.specs.Ends.{Rises, AppendsFront}
 use Rattle.reformat.specs.declared.error.ReformatError.{ReformatError}
 use Rattle.reformat.specs.declared.error.ReformatError.TheVariants.{Header, SourceFormat, Template, Render, NotARow, NotBuilt, NotUtf8, NoMemory, ReadFault, WriteFault, TooLong}
+use Rattle.edge_io.specs.Supply.{Supply}
 use Rattle.whiteread.specs.Lines.{lines_of}
 use Rattle.reformat.specs.Reached.{ended_lines, reached_lines}
 use Rattle.reformat.specs.Rewrite.{IsRewritten, AreKept}
@@ -37,34 +38,34 @@ WroteSome old new lines = (front : List (List ℕ)) × (more : List (List ℕ)) 
     × ((text : List ℕ) × AreKept front text × AppendsFront old new text)
 
 -- The clauses of the rewriting job.
-pub record Reformats {S K : Type 0} (rest : S → Option (List ℕ)) (given faults : S → ℕ) (held : K → Option (List ℕ)) (sink_faults : K → ℕ)
+pub record Reformats {S K : Type 0} (supply : Supply S) (held : K → Option (List ℕ)) (sink_faults : K → ℕ)
     (input input' : S) (output output' : K) (limit : ℕ) (result : Result ℕ ReformatError) : Type 0 where
   -- success: all was read, and the output grew by the text of the rows
-  pub rewritten : OnOk result (IfSome (rest input) (λ bytes. IsAtEnd (rest input') × ((text : List ℕ) × IsRewritten bytes text × Appends (held output) (held output') text)))
+  pub rewritten : OnOk result (IfSome (supply.rest input) (λ bytes. IsAtEnd (supply.rest input') × ((text : List ℕ) × IsRewritten bytes text × Appends (held output) (held output') text)))
   -- the number of a success is the number of rows
-  pub rows : IfOk result (λ n. IfSome (rest input) (λ bytes. length (lines_of bytes) ≡ n + 4))
+  pub rows : IfOk result (λ n. IfSome (supply.rest input) (λ bytes. length (lines_of bytes) ≡ n + 4))
   -- a refusal of a line is the first of the lines that are reached, and the output grew by the text of the rows before it
-  pub refused : IfErr result (λ why. IsOfLines why → IfSome (rest input) (λ bytes. (text : List ℕ) × Refuses limit bytes text why × Appends (held output) (held output') text))
+  pub refused : IfErr result (λ why. IsOfLines why → IfSome (supply.rest input) (λ bytes. (text : List ℕ) × Refuses limit bytes text why × Appends (held output) (held output') text))
   -- and it comes wherever the lines that are reached give it
-  pub refuses : IfSome (rest input) (λ bytes. (text : List ℕ) (why : ReformatError) → Refuses limit bytes text why → IsErrOf result why ⊎ StopsEarly result)
+  pub refuses : IfSome (supply.rest input) (λ bytes. (text : List ℕ) (why : ReformatError) → Refuses limit bytes text why → IsErrOf result why ⊎ StopsEarly result)
   -- past the limit: exactly where the source gave more than the limit in this call
-  pub too_long : IsErrOf result TooLong ↔ (given input + limit < given input')
+  pub too_long : IsErrOf result TooLong ↔ (supply.given input + limit < supply.given input')
   -- no more than one byte past the limit is taken
-  pub taken : given input' ≤ given input + limit + 1
+  pub taken : supply.given input' ≤ supply.given input + limit + 1
   -- past the limit, each line that ended within it was kept, and the output grew by the text of their rows
-  pub past_limit : IsErrOf result TooLong → IfSome (rest input) (λ bytes. (limit < length bytes) × Wrote (held output) (held output') (ended_lines limit bytes))
+  pub past_limit : IsErrOf result TooLong → IfSome (supply.rest input) (λ bytes. (limit < length bytes) × Wrote (held output) (held output') (ended_lines limit bytes))
   -- a read fault comes only where the source counted one in this call
-  pub read_fault : IsErrOf result ReadFault → Rises (faults input) (faults input')
+  pub read_fault : IsErrOf result ReadFault → Rises (supply.faults input) (supply.faults input')
   -- and the output grew by the text of the rows that ended within the bytes given in this call
-  pub after_read_fault : IsErrOf result ReadFault → IfSome (rest input) (λ bytes. Wrote (held output) (held output') (ended_lines (given input' - given input) bytes))
+  pub after_read_fault : IsErrOf result ReadFault → IfSome (supply.rest input) (λ bytes. Wrote (held output) (held output') (ended_lines (supply.given input' - supply.given input) bytes))
   -- no other answer has seen a fault of the source
-  pub reads : IsErrOf result ReadFault ⊎ (faults input' ≡ faults input)
+  pub reads : IsErrOf result ReadFault ⊎ (supply.faults input' ≡ supply.faults input)
   -- a write fault comes only where the sink counted one in this call
   pub write_fault : IsErrOf result WriteFault → Rises (sink_faults output) (sink_faults output')
   -- no other answer has seen a fault of the sink
   pub writes : IsErrOf result WriteFault ⊎ (sink_faults output' ≡ sink_faults output)
   -- after a write fault or want of memory the output grew by a front of the text of rows that were reached and kept
-  pub stopped : IsErrOf result WriteFault ⊎ IsErrOf result NoMemory → IfSome (rest input) (λ bytes. WroteSome (held output) (held output') (reached_lines limit bytes))
+  pub stopped : IsErrOf result WriteFault ⊎ IsErrOf result NoMemory → IfSome (supply.rest input) (λ bytes. WroteSome (held output) (held output') (reached_lines limit bytes))
   -- completeness: input that keeps the rules and the limit is rewritten, where no fault was counted and memory was there
-  pub complete : IfSome (rest input) (λ bytes. (text : List ℕ) → IsRewritten bytes text → length bytes ≤ limit → ¬ Rises (faults input) (faults input') → ¬ Rises (sink_faults output) (sink_faults output')
+  pub complete : IfSome (supply.rest input) (λ bytes. (text : List ℕ) → IsRewritten bytes text → length bytes ≤ limit → ¬ Rises (supply.faults input) (supply.faults input') → ¬ Rises (sink_faults output) (sink_faults output')
       → IsOk result ⊎ IsErrOf result NoMemory)

@@ -1,4 +1,5 @@
 -- What the program's top call says.
+use Rattle.edge_io.specs.Supply.{Supply}
 use Rattle.std.specs.Prelude.{◌≡◌, ◌⊎◌, ℕ, List, [], ◌∷◌, Option, Result, IfSome, codes}
 use Rattle.std.specs.Io.KnownBytes.{Appends, IsAtEnd}
 use Rattle.edge_io.specs.Ends.{Rises, AppendsFront}
@@ -21,10 +22,10 @@ abbrev pub Tells : Option (List ℕ) → Option (List ℕ) → ℕ → ℕ → L
 Tells old new faults faults' text = (Appends old new text × (faults' ≡ faults)) ⊎ (AppendsFront old new text × Rises faults faults')
 
 -- the status and the message are those of a result that has the clauses of the rewriting job
-pub record RunsRewrite {S K E : Type 0} (rest : S → Option (List ℕ)) (given faults : S → ℕ) (held : K → Option (List ℕ)) (sink_faults : K → ℕ) (told : E → Option (List ℕ)) (error_faults : E → ℕ)
+pub record RunsRewrite {S K E : Type 0} (supply : Supply S) (held : K → Option (List ℕ)) (sink_faults : K → ℕ) (told : E → Option (List ℕ)) (error_faults : E → ℕ)
     (input input' : S) (output output' : K) (errors errors' : E) (limit status : ℕ) : Type 0 where
   pub result : Result ℕ ReformatError
-  pub job : Reformats rest given faults held sink_faults input input' output output' limit result
+  pub job : Reformats supply held sink_faults input input' output output' limit result
   pub status_is : status ≡ result_status result
   pub tells : Tells (told errors) (told errors') (error_faults errors) (error_faults errors') (result_message result)
 

@@ -27,11 +27,11 @@ pub fn run<S: Source, K: Sink, E: Sink>(
 ) -> u8
     // Status 0 of `rewrite`: all was read, and the rows were written over again.
     ensures rewritten { map string_bytes words.now ≡ rewrite_words → result ≡ 0
-        → WritesAll (S.rest input.old) (S.rest input.new) (K.held output.old) (K.held output.new) }
+        → WritesAll (S.supply.rest input.old) (S.supply.rest input.new) (K.held output.old) (K.held output.new) }
 
     // Every status of `rewrite` is that of a result of the job, and its message is told.
     ensures job { map string_bytes words.now ≡ rewrite_words
-        → RunsRewrite S.rest S.given S.faults K.held K.faults E.held E.faults input.old input.new output.old output.new errors.old errors.new input_limit result }
+        → RunsRewrite S.supply K.held K.faults E.held E.faults input.old input.new output.old output.new errors.old errors.new input_limit result }
 
     // Other words are no command: the usage line is told, and nothing is read or written.
     ensures usage { ¬ (map string_bytes words.now ≡ rewrite_words)

@@ -27,9 +27,9 @@ fn next_row<B: Source>(
     batch: &mut Vec<u8>,
 ) -> Result<bool, ReformatError>
     requires apart { IsSeparated source.now }
-    requires ready { IsReady B.rest B.given before reader.old }
-    ensures step { RowStep B.rest B.given B.faults source.now template.now before reader.old reader.new batch.old.items batch.new.items result }
-    ensures same_reference { B.reference (reader_source reader.new) ≡ B.reference (reader_source reader.old) }
+    requires ready { IsReady B.supply before reader.old }
+    ensures step { RowStep B.supply source.now template.now before reader.old reader.new batch.old.items batch.new.items result }
+    ensures same_reference { B.supply.reference (reader_source reader.new) ≡ B.supply.reference (reader_source reader.old) }
 {
     if !next_line(reader, before)? {
         return Ok(false);
@@ -48,9 +48,9 @@ fn rewrite_rows<B: Source, K: Sink>(
     output: &mut K,
 ) -> Result<u64, ReformatError>
     requires apart { IsSeparated source.now }
-    requires ready { IsReady B.rest B.given 4 reader.old }
-    ensures job { Job (ends_of B.rest B.given B.faults K.held K.faults) (rows_next source.now template.now 5) [] (view_of reader.old) (reader_source reader.new) output.old output.new result }
-    ensures same_reference { B.reference (reader_source reader.new) ≡ B.reference (reader_source reader.old) }
+    requires ready { IsReady B.supply 4 reader.old }
+    ensures job { Job (ends_of B.supply K.held K.faults) (rows_next source.now template.now 5) [] (view_of reader.old) (reader_source reader.new) output.old output.new result }
+    ensures same_reference { B.supply.reference (reader_source reader.new) ≡ B.supply.reference (reader_source reader.old) }
 {
     let mut room = Room::new(alloc);
     let mut batch = Vec::new(alloc);
@@ -81,9 +81,9 @@ fn from_template<B: Source, K: Sink>(
     output: &mut K,
 ) -> Result<u64, ReformatError>
     requires apart { IsSeparated source.now }
-    requires ready { IsReady B.rest B.given 3 reader.old }
-    ensures job { Job (ends_of B.rest B.given B.faults K.held K.faults) (template_next source.now) [] (view_of reader.old) (reader_source reader.new) output.old output.new result }
-    ensures same_reference { B.reference (reader_source reader.new) ≡ B.reference (reader_source reader.old) }
+    requires ready { IsReady B.supply 3 reader.old }
+    ensures job { Job (ends_of B.supply K.held K.faults) (template_next source.now) [] (view_of reader.old) (reader_source reader.new) output.old output.new result }
+    ensures same_reference { B.supply.reference (reader_source reader.new) ≡ B.supply.reference (reader_source reader.old) }
 {
     if !next_line(reader, 3)? {
         return Err(ReformatError::Header { line: 4 });
@@ -101,9 +101,9 @@ fn from_dialect<B: Source, K: Sink>(
     output: &mut K,
 ) -> Result<u64, ReformatError>
     requires apart { IsSeparated source.now }
-    requires ready { IsReady B.rest B.given 2 reader.old }
-    ensures job { Job (ends_of B.rest B.given B.faults K.held K.faults) (dialect_next source.now) [] (view_of reader.old) (reader_source reader.new) output.old output.new result }
-    ensures same_reference { B.reference (reader_source reader.new) ≡ B.reference (reader_source reader.old) }
+    requires ready { IsReady B.supply 2 reader.old }
+    ensures job { Job (ends_of B.supply K.held K.faults) (dialect_next source.now) [] (view_of reader.old) (reader_source reader.new) output.old output.new result }
+    ensures same_reference { B.supply.reference (reader_source reader.new) ≡ B.supply.reference (reader_source reader.old) }
 {
     if !next_line(reader, 2)? {
         return Err(ReformatError::Header { line: 3 });
@@ -119,9 +119,9 @@ fn from_source<B: Source, K: Sink>(
     reader: &mut Reader<B>,
     output: &mut K,
 ) -> Result<u64, ReformatError>
-    requires ready { IsReady B.rest B.given 1 reader.old }
-    ensures job { Job (ends_of B.rest B.given B.faults K.held K.faults) (source_next kinds) [] (view_of reader.old) (reader_source reader.new) output.old output.new result }
-    ensures same_reference { B.reference (reader_source reader.new) ≡ B.reference (reader_source reader.old) }
+    requires ready { IsReady B.supply 1 reader.old }
+    ensures job { Job (ends_of B.supply K.held K.faults) (source_next kinds) [] (view_of reader.old) (reader_source reader.new) output.old output.new result }
+    ensures same_reference { B.supply.reference (reader_source reader.new) ≡ B.supply.reference (reader_source reader.old) }
 {
     if !next_line(reader, 1)? {
         return Err(ReformatError::Header { line: 2 });
@@ -137,9 +137,9 @@ fn from_kinds<B: Source, K: Sink>(
     reader: &mut Reader<B>,
     output: &mut K,
 ) -> Result<u64, ReformatError>
-    requires ready { IsReady B.rest B.given 0 reader.old }
-    ensures job { Job (ends_of B.rest B.given B.faults K.held K.faults) kinds_next [] (view_of reader.old) (reader_source reader.new) output.old output.new result }
-    ensures same_reference { B.reference (reader_source reader.new) ≡ B.reference (reader_source reader.old) }
+    requires ready { IsReady B.supply 0 reader.old }
+    ensures job { Job (ends_of B.supply K.held K.faults) kinds_next [] (view_of reader.old) (reader_source reader.new) output.old output.new result }
+    ensures same_reference { B.supply.reference (reader_source reader.new) ≡ B.supply.reference (reader_source reader.old) }
 {
     if !next_line(reader, 0)? {
         return Err(ReformatError::Header { line: 1 });
@@ -157,7 +157,7 @@ pub fn reformat<S: Source, K: Sink>(
     output: &mut K,
     limit: u64,
 ) -> Result<u64, ReformatError>
-    ensures { Reformats S.rest S.given S.faults K.held K.faults input.old input.new output.old output.new limit result }
+    ensures { Reformats S.supply K.held K.faults input.old input.new output.old output.new limit result }
 {
     let mut reader = Reader::new(alloc, input, limit);
     let answer = from_kinds(alloc, &mut reader, output);

@@ -11,8 +11,6 @@ mod kind;
 mod message;
 mod reading;
 mod row;
-#[cfg(test)]
-mod tests;
 mod words;
 
 pub use command::run;

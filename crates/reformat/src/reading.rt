@@ -44,9 +44,9 @@ pub(crate) fn next_line<B: Source>(
     reader: &mut Reader<B>,
     before: u64,
 ) -> Result<bool, ReformatError>
-    requires { IsReady B.rest B.given before reader.old }
-    ensures step { NextLine B.rest B.given B.faults before reader.old result reader.new }
-    ensures same_reference { B.reference (reader_source reader.new) ≡ B.reference (reader_source reader.old) }
+    requires { IsReady B.supply before reader.old }
+    ensures step { NextLine B.supply before reader.old result reader.new }
+    ensures same_reference { B.supply.reference (reader_source reader.new) ≡ B.supply.reference (reader_source reader.old) }
 {
     if is_open(reader.current_line()) {
         return Ok(false);

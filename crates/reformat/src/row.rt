@@ -165,6 +165,7 @@ pub(crate) fn rewrite_row(
     if !read_row(source, row.as_bytes(), &mut room.numbers)? {
         return Err(ReformatError::NotARow { line: number });
     }
+    room.line.clear();
     match vsprintfp_into(alloc, &mut room.line, template, &room.numbers) {
         Ok(()) => {
             batch.extend_from_slice(room.line.as_bytes())?;

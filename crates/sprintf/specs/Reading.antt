@@ -100,3 +100,7 @@ verbatim s = if length s.now == 0 then [] else Verbatim s ∷ []
 -- a field's text was written behind the old text, and these values are left
 abbrev pub Prints : Taken (List ℕ) → List ℕ → List ℕ → List Meaning → Type 0
 Prints taken old new left = (text : List ℕ) × (taken ≡ Ok (text, left)) × (new ≡ old ++ text)
+
+-- the text begins with another one
+abbrev pub Starts : List ℕ → List ℕ → Type 0
+Starts front text = (rest : List ℕ) × (text ≡ front ++ rest)

@@ -20,6 +20,3 @@ pub use key::FromKey;
 pub use law::{field_fills_width, text_prints_once};
 pub use map::{Format, strfmt};
 pub use types::{Alignment, FmtError, Result, Sign};
-
-#[cfg(test)]
-mod tests;

@@ -7,10 +7,11 @@ use Rattle.std.proofs.lemmas.Bool.{leb-true, le-leb, cond-true, cond-false, not-
 use Rattle.std.proofs.lemmas.Str.{IsUtf8-take, is_utf8-from_IsUtf8, IsCharBoundary-before_ascii}
 use Rattle.std.proofs.Math.Seq.{take-append_seam, take-append-add}
 use Rattle.whiteread.specs.Words.{Words, words, pieces, onto_first, is_blank, is_filled}
-use Rattle.whiteread.specs.Lines.{lines_of, with_first, line_feed, up_to_last_feed, has_feed, HasNoFeed, IsFirstLine}
-use Rattle.whiteread.specs.WordProofs.{Test, pass-head, pass-tail, pieces-blank}
-use Rattle.whiteread.specs.ReaderProofs.{none_whole}
-use Rattle.whiteread.specs.ReaderWords.{words_of_lines, whole_within}
+use Rattle.whiteread.specs.Lines.Laws.{BeginsLines, first_line, feed_off, no_feed_off}
+use Rattle.whiteread.specs.Lines.{lines_of, line_feed, up_to_last_feed, has_feed, HasNoFeed, IsFirstLine, without_feed}
+use Rattle.whiteread.specs.Inner.WordProofs.{Test, pass-head, pass-tail, pieces-blank}
+use Rattle.whiteread.specs.Inner.ReaderProofs.{none_whole}
+use Rattle.whiteread.specs.ReaderState.ReaderWords.{words_of_lines, whole_within}
 
 -- ---- a blank at the end adds no word
 
@@ -46,26 +47,6 @@ words_end text = ap (filter is_filled) (pieces_end is_blank line_feed text refl)
 
 -- ---- the first line
 
-no_feed_head : (x : ℕ) (xs : List ℕ) → HasNoFeed (x ∷ xs) → (x == line_feed) ≡ false
-no_feed_head x xs none = not-true (x == line_feed) (pass-head (λ byte. not (byte == line_feed)) x xs none)
-
-no_feed_tail : (x : ℕ) (xs : List ℕ) → HasNoFeed (x ∷ xs) → HasNoFeed xs
-no_feed_tail x xs none = pass-tail (λ byte. not (byte == line_feed)) x xs none
-
-lines_other : (x : ℕ) (xs : List ℕ) → (x == line_feed) ≡ false → lines_of (x ∷ xs) ≡ with_first x (lines_of xs)
-lines_other x xs h = cond-false (x == line_feed) ([] ∷ lines_of xs) (with_first x (lines_of xs)) h
-
-lines_whole : (text rest : List ℕ) → HasNoFeed text → lines_of (text ++ line_feed ∷ rest) ≡ text ∷ lines_of rest
-lines_whole [] rest none = refl
-lines_whole (x ∷ text) rest none =
-    lines_other x (text ++ line_feed ∷ rest) (no_feed_head x text none) ∙ ap (with_first x) (lines_whole text rest (no_feed_tail x text none))
-
-lines_unended : (line : List ℕ) → 0 < length line → HasNoFeed line → lines_of line ≡ line ∷ []
-lines_unended [] some none = absurd (omega (arith, some))
-lines_unended (x ∷ []) some none = lines_other x [] (no_feed_head x [] none)
-lines_unended (x ∷ y ∷ line) some none =
-    lines_other x (y ∷ line) (no_feed_head x (y ∷ line) none) ∙ ap (with_first x) (lines_unended (y ∷ line) (omega arith) (no_feed_tail x (y ∷ line) none))
-
 feed_in : (text rest : List ℕ) → has_feed (text ++ line_feed ∷ rest) ≡ true
 feed_in [] rest = refl
 feed_in (x ∷ text) rest = elim (x == line_feed) as (λ b. (b || has_feed (text ++ line_feed ∷ rest)) ≡ true) [ true ↦ refl | false ↦ feed_in text rest ]
@@ -75,33 +56,20 @@ up_whole [] rest = refl
 up_whole (x ∷ text) rest =
     cond-true (has_feed (x ∷ (text ++ line_feed ∷ rest))) _ _ (feed_in (x ∷ text) rest) ∙ ap (λ (l : List ℕ). x ∷ l) (up_whole text rest)
 
-utf8_front : (text : List ℕ) → IsUtf8 (text ++ line_feed ∷ []) → IsUtf8 text
-utf8_front text utf8 =
-    let at : get_or (text ++ line_feed ∷ []) (length text) 0 ≡ line_feed = feed_at text in
-    let boundary = IsCharBoundary-before_ascii (text ++ line_feed ∷ []) (length text) (omega (arith, length-append text (line_feed ∷ []))) (omega (arith, at)) in
-    subst IsUtf8 (take-append_seam text (line_feed ∷ [])) (IsUtf8-take (text ++ line_feed ∷ []) (length text) utf8 boundary) where
-      feed_at : (xs : List ℕ) → get_or (xs ++ line_feed ∷ []) (length xs) 0 ≡ line_feed
-      feed_at [] = refl
-      feed_at (x ∷ xs) = feed_at xs
-
 words_of_first : (line : List ℕ) (lines : Words) → IsUtf8 line → words_of_lines (line ∷ lines) ≡ words line ++ words_of_lines lines
 words_of_first line lines utf8 = cond-true (is_utf8 line) (words line ++ words_of_lines lines) [] (is_utf8-from_IsUtf8 line utf8)
 
+-- a line has the words that it has without its line feed
+words_without : (line after : List ℕ) → IsFirstLine line after → words (without_feed line) ≡ words line
+words_without line after (inl whole) = ap words (ap without_feed whole.1 ∙ feed_off whole.0) ∙ sym (ap words whole.1 ∙ words_end whole.0)
+words_without line after (inr last) = ap words (no_feed_off line last.0.1)
+
 -- the first line's words stand in front of those of the lines after it
 line_words : (line after : List ℕ) → IsUtf8 line → IsFirstLine line after → words_of_lines (lines_of (line ++ after)) ≡ words line ++ words_of_lines (lines_of after)
-line_words line after utf8 (inl whole) =
-    let same : line ++ after ≡ whole.0 ++ line_feed ∷ after = ap (λ (l : List ℕ). l ++ after) whole.1 ∙ append_assoc whole.0 (line_feed ∷ []) after in
-    ap (λ (l : List ℕ). words_of_lines (lines_of l)) same ∙ ap words_of_lines (lines_whole whole.0 after whole.2)
-    ∙ words_of_first whole.0 (lines_of after) (utf8_front whole.0 (subst IsUtf8 whole.1 utf8))
-    ∙ ap (λ (w : Words). w ++ words_of_lines (lines_of after)) (sym (ap words whole.1 ∙ words_end whole.0))
-line_words line after utf8 (inr last) =
-    let none : line ++ after ≡ line = ap (λ (l : List ℕ). line ++ l) last.1 ∙ append_nil line in
-    let rest : words_of_lines (lines_of after) ≡ [] = ap (λ (l : List ℕ). words_of_lines (lines_of l)) last.1 in
-    ap (λ (l : List ℕ). words_of_lines (lines_of l)) none ∙ ap words_of_lines (lines_unended line last.0.0 last.0.1) ∙ words_of_first line [] utf8
-    ∙ ap (λ (w : Words). words line ++ w) (sym rest) where
-      append_nil : (l : List ℕ) → l ++ [] ≡ l
-      append_nil [] = refl
-      append_nil (x ∷ l) = ap (λ (m : List ℕ). x ∷ m) (append_nil l)
+line_words line after utf8 first =
+    let begins : BeginsLines line after = first_line line after first in
+    ap words_of_lines begins.lines ∙ words_of_first (without_feed line) (lines_of after) (begins.utf8.0 utf8)
+    ∙ ap (λ (w : Words). w ++ words_of_lines (lines_of after)) (words_without line after first)
 
 -- ---- what is whole within the limit
 

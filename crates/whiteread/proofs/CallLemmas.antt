@@ -1,13 +1,13 @@
 -- Calls of `read`, one after another.
 use Rattle.std.proofs.Common.{◌≡◌, ◌≤◌, ◌+◌, ℕ, Bool, true, false, ◌||◌, IsTrue, List, [], ◌∷◌, ◌++◌, Option, Some, None, Result, Ok, Err, refl, sym, ◌∙◌, ap, subst, inl, inr, arith}
 use Rattle.whiteread.specs.Words.{Words}
-use Rattle.whiteread.specs.Stream.{Stream, Answer, OnNoMemory}
-use Rattle.whiteread.specs.Reading.{Relation, Reading, ReadCall, ReadsTold, EndsAtShort, CountsRead, StepsBy, Calls, no_call, one_call, some_calls, Reached}
-use Rattle.whiteread.specs.Reads.{ReadsOption, optional, ReadsEach}
+use Rattle.whiteread.specs.Stream.{Stream, Answer}
+use Rattle.whiteread.specs.Reading.{Relation, Reading, ReadCall, ReadsTold, CountsRead, StepsBy, Calls, no_call, one_call, some_calls, Reached}
+use Rattle.whiteread.specs.Reading.Reads.{ReadsOption, optional, ReadsEach}
 use Rattle.std.specs.List.{All}
-use Rattle.whiteread.specs.Tuples.{ReadsThen, then, ReadsLater, later}
-use Rattle.whiteread.specs.Adapted.{reads_after, ReadsToZero, to_zero}
-use Rattle.whiteread.proofs.ReachLemmas.{reached_none, reached_then, reached_read, reached_reads}
+use Rattle.whiteread.specs.Reading.Tuples.{ReadsThen, then, ReadsLater, later}
+use Rattle.whiteread.specs.Reading.Adapted.{reads_after, ReadsToZero, to_zero}
+use Rattle.whiteread.specs.Reading.Reach.{reached_none, reached_then, reached_read, reached_reads}
 use Rattle.whiteread.specs.declared.stream.error.Error.{Error}
 use Rattle.whiteread.specs.declared.stream.error.Error.TheVariants.{TooShort, Leftovers, ParseError, IoError, NoMemory}
 use Rattle.whiteread.specs.declared.stream.error.Progress.TheVariants.{Nothing}
@@ -45,30 +45,15 @@ counts_refusal T U old ParseError new counts = counts
 counts_refusal T U old (IoError fault) new counts = counts
 counts_refusal T U old NoMemory new counts = counts
 
-pub short_refusal : (T U : Type 0) (why : Error) (at_end : Type 0) → EndsAtShort {T = T} (Err why) at_end → EndsAtShort {T = U} (Err why) at_end
-short_refusal T U (TooShort progress) at_end short = short
-short_refusal T U Leftovers at_end short = tt
-short_refusal T U ParseError at_end short = tt
-short_refusal T U (IoError fault) at_end short = tt
-short_refusal T U NoMemory at_end short = tt
-
 -- memory is wanted by one or by the other
-pub memory_first : (A B : Type 0) (why : Error) (first second stream : Bool) → OnNoMemory {T = A} (Err why) (IsTrue (first || stream)) → OnNoMemory {T = B} (Err why) (IsTrue ((first || second) || stream))
-memory_first A B (TooShort progress) first second stream memory = tt
-memory_first A B Leftovers first second stream memory = tt
-memory_first A B ParseError first second stream memory = tt
-memory_first A B (IoError fault) first second stream memory = tt
-memory_first A B NoMemory true second stream memory = refl
-memory_first A B NoMemory false true stream memory = refl
-memory_first A B NoMemory false false stream memory = memory
+pub wanted_first : (first second stream : Bool) → IsTrue (first || stream) → IsTrue ((first || second) || stream)
+wanted_first true second stream wants = refl
+wanted_first false true stream wants = refl
+wanted_first false false stream wants = wants
 
-pub memory_second : (A B : Type 0) (why : Error) (first second stream : Bool) → OnNoMemory {T = A} (Err why) (IsTrue (second || stream)) → OnNoMemory {T = B} (Err why) (IsTrue ((first || second) || stream))
-memory_second A B (TooShort progress) first second stream memory = tt
-memory_second A B Leftovers first second stream memory = tt
-memory_second A B ParseError first second stream memory = tt
-memory_second A B (IoError fault) first second stream memory = tt
-memory_second A B NoMemory true second stream memory = refl
-memory_second A B NoMemory false second stream memory = memory
+pub wanted_second : (first second stream : Bool) → IsTrue (second || stream) → IsTrue ((first || second) || stream)
+wanted_second true second stream wants = refl
+wanted_second false second stream wants = wants
 
 -- counts that stood still before are counts from the start
 pub counts_from : {T : Type 0} (old mid : Counts) (answer : Result T Error) (new : Counts) → mid ≡ old → CountsRead mid answer new → CountsRead old answer new
@@ -91,11 +76,11 @@ pub then_refused : {S A B C : Type 0} (stream : Stream S) (front : C → A) (las
 then_refused {S} {A} {B} {C} stream front last first second old mid new value why one two = record {
   words = told_then front last first.reads second.reads (stream.left old) (stream.left mid) value why (stream.left new) one.words two.words;
   bound = omega (arith, one.bound, two.bound);
-  short = short_refusal B C why (stream.at_end new) two.short;
+  short = two.short;
   ends = tt;
   counts = counts_refusal B C (stream.faults old) why (stream.faults new) (counts_from {T = B} (stream.faults old) (stream.faults mid) (Err why) (stream.faults new) one.counts two.counts);
   step = reached_reads stream first second old (Ok value) mid (Err why) new one two;
-  memory = memory_second B C why first.allocates second.allocates stream.allocates two.memory;
+  memory = λ is. wanted_second first.allocates second.allocates stream.allocates (two.memory is);
 }
 
 told_refused_first : {A B C : Type 0} (front : C → A) (last : C → B) (first : Relation A) (second : Relation B) (start : Option Words) (why : Error) (new : Option Words)
@@ -109,11 +94,11 @@ pub then_refused_first : {S A B C : Type 0} (stream : Stream S) (front : C → A
 then_refused_first {S} {A} {B} {C} stream front last first second old new why one = record {
   words = told_refused_first front last first.reads second.reads (stream.left old) why (stream.left new) one.words;
   bound = one.bound;
-  short = short_refusal A C why (stream.at_end new) one.short;
+  short = one.short;
   ends = tt;
   counts = counts_refusal A C (stream.faults old) why (stream.faults new) one.counts;
   step = reached_read stream first old (Err why) new one;
-  memory = memory_first A C why first.allocates second.allocates stream.allocates one.memory;
+  memory = λ is. wanted_first first.allocates second.allocates stream.allocates (one.memory is);
 }
 
 told_both : {A B C : Type 0} (front : C → A) (last : C → B) (first : Relation A) (second : Relation B) (start mid : Option Words) (value : C) (new : Option Words)
@@ -193,7 +178,7 @@ none_read {S} {T} stream reading old new one = record {
   words = told_nothing reading.reads (stream.left old) (stream.left new) one.words;
   bound = omega (arith, one.bound);
   short = tt;
-  ends = λ _. one.short;
+  ends = λ _. one.short Nothing refl;
   counts = one.counts;
   step = none_step T reading.calls stream.step old new one.step;
   memory = tt;
@@ -263,13 +248,6 @@ told_zero_refused items zero reads (Some words) mid values value why new some ea
     (λ rest read. (values ++ value ∷ [], each.0, each.2, some, after_some values value reads each.0 why rest read))
     (told_at (ReadsLater reads) mid each.0 (Err why) new each.1 one)
 
-memory_own : (T : Type 0) (why : Error) (stream : Bool) → OnNoMemory {T = T} (Err why) (IsTrue (true || stream))
-memory_own T (TooShort progress) stream = tt
-memory_own T Leftovers stream = tt
-memory_own T ParseError stream = tt
-memory_own T (IoError fault) stream = tt
-memory_own T NoMemory stream = refl
-
 -- values that are no zero, and then a refusal
 pub to_zero_refused : {S T W : Type 0} (stream : Stream S) (items : W → List T) (zero : T → Type 0) (reading : Reading T) (old mid new : S) (values : List T) (value : T) (why : Error)
     → All (λ item. ¬ (zero item)) (values ++ value ∷ []) → EachCall stream reading old (values ++ value ∷ []) mid → ReadCall stream (later reading) mid (Err why) new
@@ -277,9 +255,9 @@ pub to_zero_refused : {S T W : Type 0} (stream : Stream S) (items : W → List T
 to_zero_refused {S} {T} {W} stream items zero reading old mid new values value why some each one = record {
   words = told_zero_refused items zero reading.reads (stream.left old) (stream.left mid) values value why (stream.left new) some each.words one.words;
   bound = omega (arith, each.bound, one.bound);
-  short = short_refusal T W why (stream.at_end new) one.short;
+  short = one.short;
   ends = tt;
   counts = counts_refusal T W (stream.faults old) why (stream.faults new) (counts_from {T = T} (stream.faults old) (stream.faults mid) (Err why) (stream.faults new) each.counts one.counts);
   step = reached_each stream reading (later reading) old mid new (values ++ value ∷ []) (Err why) each one;
-  memory = memory_own W why stream.allocates;
+  memory = λ _. refl;
 }

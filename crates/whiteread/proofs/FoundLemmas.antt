@@ -8,8 +8,8 @@ use Rattle.std.proofs.lemmas.List.Sums.{take_while-cons}
 use Rattle.std.proofs.lemmas.Str.{IsUtf8-drop, IsUtf8-past_char, encode_ascii, IsCharBoundary-from_drop, IsCharBoundary-end, IsCharBoundary-before_ascii}
 use Rattle.std.proofs.Math.Seq.{drop-append_seam, take-append_seam}
 use Rattle.whiteread.specs.Words.{words, is_blank, EndsRun}
-use Rattle.whiteread.specs.Found.{FindsWord, NextWord}
-use Rattle.whiteread.specs.WordProofs.{Test, pass-head, pass-tail, pass-cons, pass-nil}
+use Rattle.whiteread.specs.Words.Found.{FindsWord, NextWord}
+use Rattle.whiteread.specs.Inner.WordProofs.{Test, pass-head, pass-tail, pass-cons, pass-nil}
 use Rattle.whiteread.proofs.WordLemmas.{runs-gap, runs-run}
 
 -- the longest front that passes, and what follows it

@@ -3,17 +3,17 @@ use Rattle.std.proofs.Common.{◌≡◌, ◌≤◌, ◌<◌, ℕ, Bool, true, fa
 use Rattle.std.specs.Str.{IsCharBoundary}
 use Rattle.whiteread.specs.Stream.{Stream}
 use Rattle.whiteread.specs.Reading.{Reading, Reached}
-use Rattle.whiteread.specs.Whole.{WholeCall}
-use Rattle.whiteread.specs.Found.{FirstBoundary}
-use Rattle.whiteread.specs.Split.{split_text, split_position, SplitStep}
+use Rattle.whiteread.specs.Reading.Whole.{WholeCall}
+use Rattle.whiteread.specs.Words.Found.{FirstBoundary}
+use Rattle.whiteread.specs.Words.Split.{split_text, split_position, SplitStep}
 use Rattle.whiteread.specs.ReaderState.{reader_line, reader_passed, StaysInLine}
-use Rattle.whiteread.specs.ReaderCalls.{InLine, OverNewLine}
+use Rattle.whiteread.specs.ReaderState.ReaderCalls.{InLine, OverNewLine}
 use Rattle.whiteread.specs.declared.reader.Reader.{Reader}
 use Rattle.whiteread.specs.declared.stream.split.SplitAsciiWhitespace.{SplitAsciiWhitespace}
 use Rattle.whiteread.specs.declared.stream.error.Error.{Error}
 use Rattle.whiteread.specs.declared.stream.error.Error.TheVariants.{TooShort, Leftovers, ParseError, IoError, NoMemory}
 use Rattle.whiteread.specs.declared.stream.error.Progress.TheVariants.{Nothing}
-use Rattle.whiteread.proofs.ReachLemmas.{reached_read, reached_next}
+use Rattle.whiteread.specs.Reading.Reach.{reached_read, reached_next}
 use Rattle.whiteread.proofs.SplitLemmas.{Passed, reached_passed}
 
 -- reading all words makes calls of `next` alone

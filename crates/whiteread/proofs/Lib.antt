@@ -2,7 +2,6 @@ pub mod RenderedLemmas
 pub mod WordLemmas
 pub mod AheadLemmas
 pub mod FoundLemmas
-pub mod ReachLemmas
 pub mod CallLemmas
 pub mod NextLemmas
 pub mod SplitLemmas

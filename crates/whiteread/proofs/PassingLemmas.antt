@@ -4,15 +4,16 @@ use Rattle.std.specs.Option.{option_map}
 use Rattle.std.specs.Io.KnownBytes.{Consumes, IsAtEnd}
 use Rattle.std.specs.Str.{IsUtf8}
 use Rattle.std.proofs.lemmas.Bool.{cond-false}
+use Rattle.edge_io.specs.Supply.{Supply}
 use Rattle.whiteread.specs.Words.{Words, words}
 use Rattle.whiteread.specs.Lines.{HasNoFeed, IsFirstLine, lines_of}
-use Rattle.whiteread.specs.Found.{FindsWord}
-use Rattle.whiteread.specs.Stream.{Answer, NextCall, TakesFirst, CountsNext, OnNoMemory}
+use Rattle.whiteread.specs.Words.Found.{FindsWord}
+use Rattle.whiteread.specs.Stream.{Answer, NextCall, TakesFirst, CountsNext}
 use Rattle.whiteread.specs.ReaderState.{reader_source, reader_limit, reader_taken, reader_past, reader_waiting, reader_line, reader_passed, reader_faults, StaysInLine}
 use Rattle.whiteread.specs.LineCall.{LineCall, LineOutcome}
-use Rattle.whiteread.specs.ReaderWords.{reader_left, reader_bound, reader_stream, words_in_line, words_ahead, words_of_lines, whole_within, PassesLines}
-use Rattle.whiteread.specs.ReaderSteps.{LooksInLine, word_answer, word_from}
-use Rattle.whiteread.specs.ReaderProofs.{end_left}
+use Rattle.whiteread.specs.ReaderState.ReaderWords.{reader_left, reader_bound, reader_stream, words_in_line, words_ahead, words_of_lines, whole_within, PassesLines}
+use Rattle.whiteread.specs.Inner.ReaderSteps.{LooksInLine, word_answer, word_from}
+use Rattle.whiteread.specs.Inner.ReaderProofs.{end_left}
 use Rattle.whiteread.specs.declared.reader.Reader.{Reader}
 use Rattle.whiteread.specs.declared.stream.error.Error.{Error}
 use Rattle.whiteread.specs.declared.stream.error.Error.TheVariants.{TooShort, Leftovers, ParseError, IoError, NoMemory}
@@ -21,22 +22,22 @@ use Rattle.whiteread.specs.declared.stream.error.IoFault.TheVariants.{ReadFault,
 use Rattle.whiteread.proofs.AheadLemmas.{ahead_cut}
 
 -- lines without a word left were passed
-pub record Passing {B : Type 0} (rest : B → Option (List ℕ)) (given faults reference : B → ℕ) (old cur : Reader B) : Type 0 where
+pub record Passing {B : Type 0} (supply : Supply B) (old cur : Reader B) : Type 0 where
   pub states : List (Reader B)
-  pub passes : PassesLines rest given faults reference old states cur
-  pub left : (all : Words) → reader_left rest old ≡ Some all → reader_left rest cur ≡ Some all
+  pub passes : PassesLines supply old states cur
+  pub left : (all : Words) → reader_left supply old ≡ Some all → reader_left supply cur ≡ Some all
   pub bound : reader_bound cur ≤ reader_bound old
-  pub counts : reader_faults faults cur ≡ reader_faults faults old
+  pub counts : reader_faults supply cur ≡ reader_faults supply old
 
-pub passing_none : {B : Type 0} (rest : B → Option (List ℕ)) (given faults reference : B → ℕ) (old : Reader B) → Passing rest given faults reference old old
-passing_none rest given faults reference old = record { states = []; passes = refl; left = λ all is. is; bound = omega arith; counts = refl }
+pub passing_none : {B : Type 0} (supply : Supply B) (old : Reader B) → Passing supply old old
+passing_none supply old = record { states = []; passes = refl; left = λ all is. is; bound = omega arith; counts = refl }
 
-passes_more : {B : Type 0} (rest : B → Option (List ℕ)) (given faults reference : B → ℕ) (old : Reader B) (states : List (Reader B)) (cur next : Reader B)
-    → PassesLines rest given faults reference old states cur → words_in_line cur ≡ [] → LineCall rest given faults reference cur (Ok true) next → PassesLines rest given faults reference old (states ++ next ∷ []) next
-passes_more rest given faults reference old [] cur next passes none call =
-    (subst (λ r. words_in_line r ≡ []) passes none, subst (λ r. LineCall rest given faults reference r (Ok true) next) passes call, refl)
-passes_more rest given faults reference old (state ∷ states) cur next passes none call =
-    (passes.0, passes.1, passes_more rest given faults reference state states cur next passes.2 none call)
+passes_more : {B : Type 0} (supply : Supply B) (old : Reader B) (states : List (Reader B)) (cur next : Reader B)
+    → PassesLines supply old states cur → words_in_line cur ≡ [] → LineCall supply cur (Ok true) next → PassesLines supply old (states ++ next ∷ []) next
+passes_more supply old [] cur next passes none call =
+    (subst (λ r. words_in_line r ≡ []) passes none, subst (λ r. LineCall supply r (Ok true) next) passes call, refl)
+passes_more supply old (state ∷ states) cur next passes none call =
+    (passes.0, passes.1, passes_more supply state states cur next passes.2 none call)
 
 not_past : {B : Type 0} (old new : Reader B) → (reader_past old ≡ true → reader_past new ≡ true) → reader_past new ≡ false → reader_past old ≡ false
 not_past old new stays now =
@@ -72,15 +73,15 @@ line_left cur next got (Some xs) (Some ys) all none passed past past_next taken 
     ∙ sym (ap (λ (w : Words). w ++ words_ahead cur xs) none) ∙ some_is _ _ told in
     ap Some is
 
-pub passing_more : {B : Type 0} (rest : B → Option (List ℕ)) (given faults reference : B → ℕ) (old cur next : Reader B)
-    → Passing rest given faults reference old cur → words_in_line cur ≡ [] → LineCall rest given faults reference cur (Ok true) next → Passing rest given faults reference old next
-passing_more rest given faults reference old cur next passing none call =
+pub passing_more : {B : Type 0} (supply : Supply B) (old cur next : Reader B)
+    → Passing supply old cur → words_in_line cur ≡ [] → LineCall supply cur (Ok true) next → Passing supply old next
+passing_more supply old cur next passing none call =
     let takes = call.outcome.0 in
     record {
       states = passing.states ++ next ∷ [];
-      passes = passes_more rest given faults reference old passing.states cur next passing.passes none call;
+      passes = passes_more supply old passing.states cur next passing.passes none call;
       left = λ all is.
-          line_left cur next takes.got (rest (reader_source cur)) (rest (reader_source next)) all none call.passed (not_past cur next call.stays_past takes.past) takes.past takes.taken call.limit takes.cut takes.first call.outcome.1
+          line_left cur next takes.got (supply.rest (reader_source cur)) (supply.rest (reader_source next)) all none call.passed (not_past cur next call.stays_past takes.past) takes.past takes.taken call.limit takes.cut takes.first call.outcome.1
           takes.gave.bytes takes.unended (passing.left all is);
       bound = let w : reader_taken next ≤ reader_limit next = next.within in
           omega (arith, passing.bound, w, takes.taken, call.limit, ap (λ (l : List ℕ). length l) takes.cut, length-append (reader_waiting cur) takes.got, length-append (reader_line next) (reader_waiting next));
@@ -95,8 +96,8 @@ line_some line after (inr last) = last.0.0
 abbrev pub ahead_bound : {B : Type 0} → Reader B → ℕ
 ahead_bound r = length (reader_waiting r) + (reader_limit r - reader_taken r)
 
-pub ahead_falls : {B : Type 0} (rest : B → Option (List ℕ)) (given faults reference : B → ℕ) (cur next : Reader B) → LineCall rest given faults reference cur (Ok true) next → ahead_bound next < ahead_bound cur
-ahead_falls rest given faults reference cur next call =
+pub ahead_falls : {B : Type 0} (supply : Supply B) (cur next : Reader B) → LineCall supply cur (Ok true) next → ahead_bound next < ahead_bound cur
+ahead_falls supply cur next call =
     let takes = call.outcome.0 in
     let w : reader_taken next ≤ reader_limit next = next.within in
     omega (arith, w, takes.taken, call.limit, ap (λ (l : List ℕ). length l) takes.cut, length-append (reader_waiting cur) takes.got, length-append (reader_line next) (reader_waiting next), line_some (reader_line next) (reader_waiting next) takes.first)
@@ -128,13 +129,13 @@ word_left cur new word (Some xs) after all finds stays same told =
       ap (option_map (λ bytes. words_in_line new ++ words_ahead new bytes)) same,
     )
 
-pub word_call : {B : Type 0} (rest : B → Option (List ℕ)) (given faults reference : B → ℕ) (old cur : Reader B) (start : ℕ) (new : Reader B)
-    → Passing rest given faults reference old cur → LooksInLine cur (Some start) new → NextCall (reader_stream rest given faults reference) old (word_answer (Ok (Some start)) new) new
-word_call rest given faults reference old cur start new passing (finds, stays, less, within, boundary) =
+pub word_call : {B : Type 0} (supply : Supply B) (old cur : Reader B) (start : ℕ) (new : Reader B)
+    → Passing supply old cur → LooksInLine cur (Some start) new → NextCall (reader_stream supply) old (word_answer (Ok (Some start)) new) new
+word_call supply old cur start new passing (finds, stays, less, within, boundary) =
     let word = word_from start new in
     record {
-      words = takes_told (reader_left rest old) (Ok (Some word)) (reader_left rest new)
-          (λ all is. word_left cur new word (rest (reader_source cur)) (rest (reader_source new)) all finds stays (ap rest stays.source) (passing.left all is));
+      words = takes_told (reader_left supply old) (Ok (Some word)) (reader_left supply new)
+          (λ all is. word_left cur new word (supply.rest (reader_source cur)) (supply.rest (reader_source new)) all finds stays (ap supply.rest stays.source) (passing.left all is));
       bound =
           omega (
             arith,
@@ -150,7 +151,7 @@ word_call rest given faults reference old cur start new passing (finds, stays, l
             length-drop start (reader_line new),
           );
       end = tt;
-      counts = stays.faults faults ∙ passing.counts;
+      counts = stays.faults supply ∙ passing.counts;
       step = record { states = passing.states; last = cur; passes = passing.passes; ends = (finds, stays) };
       memory = tt;
     }
@@ -172,16 +173,16 @@ end_told cur new None after all bytes end line waiting told = absurd (let e = to
 end_told cur new (Some xs) None all bytes end line waiting told = absurd bytes
 end_told cur new (Some xs) (Some ys) all bytes end line waiting told = ap Some (end_left new (Some ys) (words_in_line new ++ words_ahead new ys) line waiting end refl)
 
-pub none_call : {B : Type 0} (rest : B → Option (List ℕ)) (given faults reference : B → ℕ) (old cur new : Reader B)
-    → Passing rest given faults reference old cur → words_in_line cur ≡ [] → LineCall rest given faults reference cur (Ok false) new → NextCall (reader_stream rest given faults reference) old (Ok None) new
-none_call rest given faults reference old cur new passing none call =
+pub none_call : {B : Type 0} (supply : Supply B) (old cur new : Reader B)
+    → Passing supply old cur → words_in_line cur ≡ [] → LineCall supply cur (Ok false) new → NextCall (reader_stream supply) old (Ok None) new
+none_call supply old cur new passing none call =
     let meets = call.outcome.0 in
     let line : words_in_line new ≡ [] = words_none (reader_passed new) (reader_line new) call.outcome.1.line in
     record {
-      words = takes_told (reader_left rest old) (Ok None) (reader_left rest new)
+      words = takes_told (reader_left supply old) (Ok None) (reader_left supply new)
           (λ all is. (
-            end_left cur (rest (reader_source cur)) all none meets.none_waited (end_before (rest (reader_source cur)) (rest (reader_source new)) meets.gave.bytes meets.end) (passing.left all is),
-            end_told cur new (rest (reader_source cur)) (rest (reader_source new)) all meets.gave.bytes meets.end line meets.none_waits (passing.left all is),
+            end_left cur (supply.rest (reader_source cur)) all none meets.none_waited (end_before (supply.rest (reader_source cur)) (supply.rest (reader_source new)) meets.gave.bytes meets.end) (passing.left all is),
+            end_told cur new (supply.rest (reader_source cur)) (supply.rest (reader_source new)) all meets.gave.bytes meets.end line meets.none_waits (passing.left all is),
           ));
       bound = omega (arith, passing.bound, meets.taken, call.limit, ap (λ (l : List ℕ). length l) meets.none_waits, ap (λ (l : List ℕ). length l) call.outcome.1.line);
       end = record { line = line; waiting = meets.none_waits; end = meets.end };
@@ -192,23 +193,23 @@ none_call rest given faults reference old cur new passing none call =
 
 -- ---- a refusal
 
-refused_bound : {B : Type 0} (rest : B → Option (List ℕ)) (given : B → ℕ) (cur new : Reader B) (why : Error) → reader_limit new ≡ reader_limit cur → reader_passed new ≡ 0 → LineOutcome rest given cur (Err why) new
+refused_bound : {B : Type 0} (supply : Supply B) (cur new : Reader B) (why : Error) → reader_limit new ≡ reader_limit cur → reader_passed new ≡ 0 → LineOutcome supply cur (Err why) new
     → reader_bound new ≤ reader_bound cur
-refused_bound rest given cur new (TooShort progress) limit passed outcome = absurd outcome
-refused_bound rest given cur new Leftovers limit passed outcome = absurd outcome
-refused_bound rest given cur new ParseError limit passed outcome = absurd outcome
-refused_bound rest given cur new (IoError ReadFault) limit passed outcome =
+refused_bound supply cur new (TooShort progress) limit passed outcome = absurd outcome
+refused_bound supply cur new Leftovers limit passed outcome = absurd outcome
+refused_bound supply cur new ParseError limit passed outcome = absurd outcome
+refused_bound supply cur new (IoError ReadFault) limit passed outcome =
     let w : reader_taken new ≤ reader_limit new = new.within in
     omega (arith, limit, w, outcome.0.taken, ap (λ (l : List ℕ). length l) outcome.0.waits, length-append (reader_waiting cur) outcome.0.got, ap (λ (l : List ℕ). length l) outcome.3.line)
-refused_bound rest given cur new (IoError NotUtf8) limit passed outcome =
+refused_bound supply cur new (IoError NotUtf8) limit passed outcome =
     let w : reader_taken new ≤ reader_limit new = new.within in
     let takes = outcome.0.1 in
     omega (arith, limit, w, takes.taken, ap (λ (l : List ℕ). length l) takes.cut, length-append (reader_waiting cur) takes.got, length-append outcome.0.0 (reader_waiting new), ap (λ (l : List ℕ). length l) outcome.1.line)
-refused_bound rest given cur new (IoError TooLong) limit passed outcome =
+refused_bound supply cur new (IoError TooLong) limit passed outcome =
     let w : reader_taken new ≤ reader_limit new = new.within in
     omega (arith, limit, w, outcome.0.taken, ap (λ (l : List ℕ). length l) outcome.0.waits, length-append (reader_waiting cur) outcome.0.got, ap (λ (l : List ℕ). length l) outcome.1.line)
-refused_bound rest given cur new (IoError CannotOpen) limit passed outcome = absurd outcome
-refused_bound rest given cur new NoMemory limit passed outcome =
+refused_bound supply cur new (IoError CannotOpen) limit passed outcome = absurd outcome
+refused_bound supply cur new NoMemory limit passed outcome =
     let w : reader_taken new ≤ reader_limit new = new.within in
     omega (arith, limit, w, outcome.0.taken, ap (λ (l : List ℕ). length l) outcome.0.waits, length-append (reader_waiting cur) outcome.0.got, ap (λ (l : List ℕ). length l) outcome.1.line)
 
@@ -222,30 +223,23 @@ refused_counts old mid new ParseError is counts = counts
 refused_counts old mid new (IoError fault) is counts = subst (λ (c : Counts). CountsNext {T = Bool} c (Err (IoError fault)) new) is counts
 refused_counts old mid new NoMemory is counts = counts ∙ is
 
-may_want : (why : Error) → OnNoMemory {T = Option (List ℕ)} (Err why) (IsTrue true)
-may_want (TooShort progress) = tt
-may_want Leftovers = tt
-may_want ParseError = tt
-may_want (IoError fault) = tt
-may_want NoMemory = refl
-
-pub refused_call : {B : Type 0} (rest : B → Option (List ℕ)) (given faults reference : B → ℕ) (old cur new : Reader B) (why : Error)
-    → Passing rest given faults reference old cur → words_in_line cur ≡ [] → LineCall rest given faults reference cur (Err why) new → NextCall (reader_stream rest given faults reference) old (Err why) new
-refused_call rest given faults reference old cur new why passing none call = record {
-  words = takes_told (reader_left rest old) (Err why) (reader_left rest new) (λ all is. tt);
-  bound = let low = refused_bound rest given cur new why call.limit call.passed call.outcome in omega (arith, passing.bound, low);
+pub refused_call : {B : Type 0} (supply : Supply B) (old cur new : Reader B) (why : Error)
+    → Passing supply old cur → words_in_line cur ≡ [] → LineCall supply cur (Err why) new → NextCall (reader_stream supply) old (Err why) new
+refused_call supply old cur new why passing none call = record {
+  words = takes_told (reader_left supply old) (Err why) (reader_left supply new) (λ all is. tt);
+  bound = let low = refused_bound supply cur new why call.limit call.passed call.outcome in omega (arith, passing.bound, low);
   end = tt;
-  counts = refused_counts (reader_faults faults old) (reader_faults faults cur) (reader_faults faults new) why passing.counts call.counts;
+  counts = refused_counts (reader_faults supply old) (reader_faults supply cur) (reader_faults supply new) why passing.counts call.counts;
   step = record { states = passing.states; last = cur; passes = passing.passes; ends = (none, call) };
-  memory = may_want why;
+  memory = λ _. refl;
 }
 
 -- the look found no word, and changed nothing
-pub looked : {B : Type 0} (rest : B → Option (List ℕ)) (given faults reference : B → ℕ) (old cur new : Reader B)
-    → Passing rest given faults reference old cur → LooksInLine cur None new → Passing rest given faults reference old new × (words_in_line new ≡ [])
-looked rest given faults reference old cur new passing look =
-    (subst (λ r. Passing rest given faults reference old r) (sym look.1) passing, subst (λ r. words_in_line r ≡ []) (sym look.1) look.0)
+pub looked : {B : Type 0} (supply : Supply B) (old cur new : Reader B)
+    → Passing supply old cur → LooksInLine cur None new → Passing supply old new × (words_in_line new ≡ [])
+looked supply old cur new passing look =
+    (subst (λ r. Passing supply old r) (sym look.1) passing, subst (λ r. words_in_line r ≡ []) (sym look.1) look.0)
 
-pub line_read : {B : Type 0} (rest : B → Option (List ℕ)) (given faults reference : B → ℕ) (cur : Reader B) (found is : Bool) (next : Reader B)
-    → found ≡ is → LineCall rest given faults reference cur (Ok found) next → LineCall rest given faults reference cur (Ok is) next
-line_read rest given faults reference cur found is next same call = subst (λ b. LineCall rest given faults reference cur (Ok b) next) same call
+pub line_read : {B : Type 0} (supply : Supply B) (cur : Reader B) (found is : Bool) (next : Reader B)
+    → found ≡ is → LineCall supply cur (Ok found) next → LineCall supply cur (Ok is) next
+line_read supply cur found is next same call = subst (λ b. LineCall supply cur (Ok b) next) same call

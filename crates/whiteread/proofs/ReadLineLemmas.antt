@@ -1,22 +1,20 @@
 -- The reading of a line from its two steps: a line is awaited, and then taken.
-use Rattle.std.proofs.Common.{◌≡◌, ℕ, Bool, true, false, List, [], ◌++◌, length, drop, take, Option, Some, None, Ok, Err, refl, sym, ◌∙◌, ap, subst, inl, inr, ◌⊎◌, ⊎_elim, arith, add-zero, append-nil, take-append-drop}
+use Rattle.std.proofs.Common.{◌≡◌, ℕ, Bool, true, false, List, [], ◌++◌, length, drop, take, Option, Some, None, Ok, Err, refl, sym, ◌∙◌, ap, subst, inl, inr, ◌⊎◌, ⊎_elim, arith, add-zero, append-nil, take-append-drop, length-append}
 use Rattle.std.specs.Prelude.{IsUtf8}
 use Rattle.std.specs.Io.KnownBytes.{IsAtEnd}
-use Rattle.whiteread.specs.Given.{Gave}
+use Rattle.edge_io.specs.Supply.{Supply, Gave}
+use Rattle.edge_io.specs.Supply.Laws.{gave_none}
 use Rattle.whiteread.specs.Lines.{HasNoFeed, IsFirstLine}
 use Rattle.whiteread.specs.Stream.{CountsNext}
 use Rattle.whiteread.specs.ReaderState.{reader_source, reader_limit, reader_taken, reader_past, reader_waiting, reader_line, reader_passed, reader_row, reader_faults}
 use Rattle.whiteread.specs.LineCall.{Waits, TakesLine, HasNoLine, LineOutcome, LineCall, next_row}
-use Rattle.whiteread.specs.LineSteps.{AwaitRefusal, HasFirstLine, AwaitCall, TakeCall}
+use Rattle.whiteread.specs.Inner.LineSteps.{AwaitRefusal, HasFirstLine, AwaitCall, TakeCall}
 use Rattle.whiteread.specs.declared.reader.Reader.{Reader}
 use Rattle.whiteread.specs.declared.stream.error.Error.{Error}
 use Rattle.whiteread.specs.declared.stream.error.Error.TheVariants.{TooShort, Leftovers, ParseError, IoError, NoMemory}
 use Rattle.whiteread.specs.declared.stream.error.IoFault.{IoFault}
 use Rattle.whiteread.specs.declared.stream.error.IoFault.TheVariants.{ReadFault, NotUtf8, TooLong, CannotOpen}
-use Rattle.whiteread.proofs.AwaitLemmas.{gave_none, waits_more, passes_more, counts_refusal}
-
-abbrev Rest : Type 0 → Type 0
-Rest B = B → Option (List ℕ)
+use Rattle.whiteread.proofs.AwaitLemmas.{waits_more, passes_more, counts_refusal}
 
 -- all but the line and its place is the same, and there is no line
 pub record Cleared {B : Type 0} (old new : Reader B) : Type 0 where
@@ -26,7 +24,7 @@ pub record Cleared {B : Type 0} (old new : Reader B) : Type 0 where
   pub past : reader_past new ≡ reader_past old
   pub waiting : reader_waiting new ≡ reader_waiting old
   pub row : reader_row new ≡ reader_row old
-  pub faults : (faults : B → ℕ) → reader_faults faults new ≡ reader_faults faults old
+  pub faults : (supply : Supply B) → reader_faults supply new ≡ reader_faults supply old
   pub line : reader_line new ≡ []
   pub passed : reader_passed new ≡ 0
 
@@ -38,14 +36,14 @@ pub record NextRow {B : Type 0} (old new : Reader B) : Type 0 where
   pub past : reader_past new ≡ reader_past old
   pub waiting : reader_waiting new ≡ reader_waiting old
   pub row : reader_row new ≡ next_row (reader_row old)
-  pub faults : (faults : B → ℕ) → reader_faults faults new ≡ reader_faults faults old
+  pub faults : (supply : Supply B) → reader_faults supply new ≡ reader_faults supply old
   pub line : reader_line new ≡ reader_line old
   pub passed : reader_passed new ≡ reader_passed old
 
-waits_cleared : {B : Type 0} (rest : Rest B) (given : B → ℕ) (old start : Reader B) → Cleared old start → Waits rest given old start
-waits_cleared {B} rest given old start c = record {
+waits_cleared : {B : Type 0} (supply : Supply B) (old start : Reader B) → Cleared old start → Waits supply old start
+waits_cleared {B} supply old start c = record {
   got = [];
-  gave = subst (λ (x : B). Gave rest given (reader_source old) x []) (sym c.source) (gave_none rest given (reader_source old));
+  gave = subst (λ (x : B). Gave supply (reader_source old) x []) (sym c.source) (gave_none supply (reader_source old));
   taken = c.taken ∙ sym (add-zero (reader_taken old));
   waits = c.waiting ∙ sym (append-nil (reader_waiting old));
   past = c.past;
@@ -59,112 +57,115 @@ lazy_cleared old start mid c lazy given =
     (λ (past : reader_past old ≡ true). inr (c.past ∙ past)) given in
     lazy same ∙ c.source
 
-refused_outcome : {B : Type 0} (rest : Rest B) (given : B → ℕ) (old start : Reader B) (why : Error) (mid : Reader B) → Cleared old start → AwaitRefusal rest given start why mid → HasNoLine (reader_row old) mid → LineOutcome rest given old (Err why) mid
-refused_outcome rest given old start (TooShort progress) mid c refusal none = refusal
-refused_outcome rest given old start Leftovers mid c refusal none = refusal
-refused_outcome rest given old start ParseError mid c refusal none = refusal
-refused_outcome rest given old start (IoError ReadFault) mid c refusal none =
-    (waits_more rest given old start mid (waits_cleared rest given old start c) refusal.0, refusal.1, sym c.past ∙ refusal.2, none)
-refused_outcome rest given old start (IoError NotUtf8) mid c refusal none = absurd refusal
-refused_outcome rest given old start (IoError TooLong) mid c refusal none = (passes_more rest given old start mid (waits_cleared rest given old start c) refusal, none)
-refused_outcome rest given old start (IoError CannotOpen) mid c refusal none = refusal
-refused_outcome rest given old start NoMemory mid c refusal none = (waits_more rest given old start mid (waits_cleared rest given old start c) refusal, none)
+refused_outcome : {B : Type 0} (supply : Supply B) (old start : Reader B) (why : Error) (mid : Reader B) → Cleared old start → AwaitRefusal supply start why mid → HasNoLine (reader_row old) mid → LineOutcome supply old (Err why) mid
+refused_outcome supply old start (TooShort progress) mid c refusal none = refusal
+refused_outcome supply old start Leftovers mid c refusal none = refusal
+refused_outcome supply old start ParseError mid c refusal none = refusal
+refused_outcome supply old start (IoError ReadFault) mid c refusal none =
+    (waits_more supply old start mid (waits_cleared supply old start c) refusal.0, refusal.1, sym c.past ∙ refusal.2, none)
+refused_outcome supply old start (IoError NotUtf8) mid c refusal none = absurd refusal
+refused_outcome supply old start (IoError TooLong) mid c refusal none = (passes_more supply old start mid (waits_cleared supply old start c) refusal, none)
+refused_outcome supply old start (IoError CannotOpen) mid c refusal none = refusal
+refused_outcome supply old start NoMemory mid c refusal none = (waits_more supply old start mid (waits_cleared supply old start c) refusal, none)
 
 -- no line was had
-pub line_refused : {B : Type 0} (rest : Rest B) (given faults reference : B → ℕ) (old : Reader B) {start mid : Reader B} (why : Error) → AwaitCall rest given faults reference start (Err why) mid → Cleared old start → LineCall rest given faults reference old (Err why) mid
-line_refused rest given faults reference old {start} {mid} why call c =
+pub line_refused : {B : Type 0} (supply : Supply B) (old : Reader B) {start mid : Reader B} (why : Error) → AwaitCall supply start (Err why) mid → Cleared old start → LineCall supply old (Err why) mid
+line_refused supply old {start} {mid} why call c =
     let kept = call.step.kept in record {
-      outcome = refused_outcome rest given old start why mid c call.outcome (record { row = kept.row ∙ c.row; line = kept.line ∙ c.line });
+      outcome = refused_outcome supply old start why mid c call.outcome (record { row = kept.row ∙ c.row; line = kept.line ∙ c.line });
       passed = kept.passed ∙ c.passed;
-      counts = subst (λ (f : IoFault → ℕ). CountsNext {T = Bool} f (Err why) (reader_faults faults mid)) (c.faults faults) (counts_refusal (Option ℕ) Bool _ why _ call.step.counts);
+      counts = subst (λ (f : IoFault → ℕ). CountsNext {T = Bool} f (Err why) (reader_faults supply mid)) (c.faults supply) (counts_refusal (Option ℕ) Bool _ why _ call.step.counts);
       lazy = lazy_cleared old start mid c call.lazy;
       stays_past = λ past. call.step.stays_past (c.past ∙ past);
       limit = kept.limit ∙ c.limit;
-      same_reference = kept.same_reference ∙ ap reference c.source;
+      same_reference = kept.same_reference ∙ ap supply.reference c.source;
     }
 
 -- the input had ended
-pub line_end : {B : Type 0} (rest : Rest B) (given faults reference : B → ℕ) (old : Reader B) {start mid : Reader B} (new : Reader B) → AwaitCall rest given faults reference start (Ok None) mid → Cleared old start → NextRow mid new → LineCall rest given faults reference old (Ok false) new
-line_end {B} rest given faults reference old {start} {mid} new call c n =
+pub line_end : {B : Type 0} (supply : Supply B) (old : Reader B) {start mid : Reader B} (new : Reader B) → AwaitCall supply start (Ok None) mid → Cleared old start → NextRow mid new → LineCall supply old (Ok false) new
+line_end {B} supply old {start} {mid} new call c n =
     let kept = call.step.kept in
     let ends = call.outcome in
-    let gave : Gave rest given (reader_source old) (reader_source new) [] =
-    subst (λ (x : B). Gave rest given (reader_source old) x []) (sym n.source) (subst (λ (x : B). Gave rest given x (reader_source mid) []) c.source ends.gave) in record {
+    let gave : Gave supply (reader_source old) (reader_source new) [] =
+    subst (λ (x : B). Gave supply (reader_source old) x []) (sym n.source) (subst (λ (x : B). Gave supply x (reader_source mid) []) c.source ends.gave) in record {
       outcome = (
         record {
           gave = gave;
           taken = n.taken ∙ ends.taken ∙ c.taken;
           none_waited = sym c.waiting ∙ ends.none_waited;
           none_waits = n.waiting ∙ ends.none_waits;
-          end = subst (λ (x : B). IsAtEnd (rest x)) (sym n.source) ends.end;
+          end = subst (λ (x : B). IsAtEnd (supply.rest x)) (sym n.source) ends.end;
           past = n.past ∙ ends.past;
         },
         record { row = n.row ∙ ap next_row (kept.row ∙ c.row); line = n.line ∙ kept.line ∙ c.line },
       );
       passed = n.passed ∙ kept.passed ∙ c.passed;
-      counts = n.faults faults ∙ call.step.counts ∙ c.faults faults;
+      counts = n.faults supply ∙ call.step.counts ∙ c.faults supply;
       lazy = λ h. n.source ∙ lazy_cleared old start mid c call.lazy h;
       stays_past = λ past. n.past ∙ call.step.stays_past (c.past ∙ past);
       limit = n.limit ∙ kept.limit ∙ c.limit;
-      same_reference = ap reference n.source ∙ kept.same_reference ∙ ap reference c.source;
+      same_reference = ap supply.reference n.source ∙ kept.same_reference ∙ ap supply.reference c.source;
     }
 
 -- the line that is the first of what waits
-takes_line : {B : Type 0} (rest : Rest B) (given : B → ℕ) (old start mid new : Reader B) (len : ℕ) (line : List ℕ) → Waits rest given old mid → HasFirstLine rest start mid len → reader_waiting start ≡ reader_waiting old → reader_past old ≡ false
+takes_line : {B : Type 0} (supply : Supply B) (old start mid new : Reader B) (len : ℕ) (line : List ℕ) → Waits supply old mid → HasFirstLine supply start mid len → reader_waiting start ≡ reader_waiting old → reader_past old ≡ false
     → reader_source new ≡ reader_source mid → reader_taken new ≡ reader_taken mid → reader_past new ≡ reader_past mid → reader_waiting new ≡ drop len (reader_waiting mid) → line ≡ take len (reader_waiting mid)
-    → TakesLine rest given old new line
-takes_line {B} rest given old start mid new len line w f same within source taken past left is = record {
+    → TakesLine supply old new line
+takes_line {B} supply old start mid new len line w f same within source taken past left is = record {
   got = w.got;
-  gave = subst (λ (x : B). Gave rest given (reader_source old) x w.got) (sym source) w.gave;
+  gave = subst (λ (x : B). Gave supply (reader_source old) x w.got) (sym source) w.gave;
   taken = taken ∙ w.taken;
   cut = sym w.waits ∙ sym (take-append-drop len (reader_waiting mid)) ∙ ap (λ l. l ++ drop len (reader_waiting mid)) (sym is) ∙ ap (λ l. line ++ l) (sym left);
   first = subst (λ (l : List ℕ). IsFirstLine l (reader_waiting new)) (sym is) (subst (λ (l : List ℕ). IsFirstLine (take len (reader_waiting mid)) l) (sym left) f.first);
-  unended = λ none. subst (λ (x : B). IsAtEnd (rest x)) (sym source) (f.unended (subst HasNoFeed is none));
-  few = omega (arith, f.few, ap length left, ap length same);
+  unended = λ none. subst (λ (x : B). IsAtEnd (supply.rest x)) (sym source) (f.unended (subst HasNoFeed is none));
+  few = λ some.
+      let long = ap length w.waits in
+      let few = f.few (omega (arith, some, long, length-append (reader_waiting old) w.got, ap length same)) in
+      omega (arith, few, ap length left);
   past = past ∙ w.past ∙ within;
 }
 
 -- a line was taken
-pub line_taken : {B T : Type 0} (rest : Rest B) (given faults reference : B → ℕ) (old : Reader B) {start mid new : Reader B} (len : ℕ) (done : T) → TakeCall faults len mid (Ok done) new → AwaitCall rest given faults reference start (Ok (Some len)) mid → Cleared old start
-    → LineCall rest given faults reference old (Ok true) new
-line_taken rest given faults reference old {start} {mid} {new} len done take_call call c =
+pub line_taken : {B T : Type 0} (supply : Supply B) (old : Reader B) {start mid new : Reader B} (len : ℕ) (done : T) → TakeCall supply len mid (Ok done) new → AwaitCall supply start (Ok (Some len)) mid → Cleared old start
+    → LineCall supply old (Ok true) new
+line_taken supply old {start} {mid} {new} len done take_call call c =
     let kept = call.step.kept in
     let t = take_call.outcome in
-    let w = waits_more rest given old start mid (waits_cleared rest given old start c) call.outcome.0 in record {
+    let w = waits_more supply old start mid (waits_cleared supply old start c) call.outcome.0 in record {
       outcome = (
-        takes_line rest given old start mid new len (reader_line new) w call.outcome.1 c.waiting (sym c.past ∙ call.outcome.2) take_call.source take_call.taken take_call.past t.0 t.1,
+        takes_line supply old start mid new len (reader_line new) w call.outcome.1 c.waiting (sym c.past ∙ call.outcome.2) take_call.source take_call.taken take_call.past t.0 t.1,
         subst IsUtf8 (sym t.1) t.2,
         t.3 ∙ ap next_row (kept.row ∙ c.row),
       );
       passed = take_call.passed ∙ kept.passed ∙ c.passed;
-      counts = take_call.counts ∙ call.step.counts ∙ c.faults faults;
+      counts = take_call.counts ∙ call.step.counts ∙ c.faults supply;
       lazy = λ h. take_call.source ∙ lazy_cleared old start mid c call.lazy h;
       stays_past = λ past. take_call.past ∙ call.step.stays_past (c.past ∙ past);
       limit = take_call.limit ∙ kept.limit ∙ c.limit;
-      same_reference = ap reference take_call.source ∙ kept.same_reference ∙ ap reference c.source;
+      same_reference = ap supply.reference take_call.source ∙ kept.same_reference ∙ ap supply.reference c.source;
     }
 
-not_taken_outcome : {B T : Type 0} (rest : Rest B) (given faults reference : B → ℕ) (old start mid new : Reader B) (len : ℕ) (why : Error) → TakeCall {T = T} faults len mid (Err why) new → AwaitCall rest given faults reference start (Ok (Some len)) mid → Cleared old start
-    → LineOutcome rest given old (Err why) new
-not_taken_outcome rest given faults reference old start mid new len (TooShort progress) take_call call c = take_call.outcome
-not_taken_outcome rest given faults reference old start mid new len Leftovers take_call call c = take_call.outcome
-not_taken_outcome rest given faults reference old start mid new len ParseError take_call call c = take_call.outcome
-not_taken_outcome rest given faults reference old start mid new len (IoError ReadFault) take_call call c = absurd take_call.outcome
-not_taken_outcome rest given faults reference old start mid new len (IoError NotUtf8) take_call call c =
+not_taken_outcome : {B T : Type 0} (supply : Supply B) (old start mid new : Reader B) (len : ℕ) (why : Error) → TakeCall {T = T} supply len mid (Err why) new → AwaitCall supply start (Ok (Some len)) mid → Cleared old start
+    → LineOutcome supply old (Err why) new
+not_taken_outcome supply old start mid new len (TooShort progress) take_call call c = take_call.outcome
+not_taken_outcome supply old start mid new len Leftovers take_call call c = take_call.outcome
+not_taken_outcome supply old start mid new len ParseError take_call call c = take_call.outcome
+not_taken_outcome supply old start mid new len (IoError ReadFault) take_call call c = absurd take_call.outcome
+not_taken_outcome supply old start mid new len (IoError NotUtf8) take_call call c =
     let t = take_call.outcome in
-    let w = waits_more rest given old start mid (waits_cleared rest given old start c) call.outcome.0 in
+    let w = waits_more supply old start mid (waits_cleared supply old start c) call.outcome.0 in
     let line = take len (reader_waiting mid) in (
-      (line, takes_line rest given old start mid new len line w call.outcome.1 c.waiting (sym c.past ∙ call.outcome.2) take_call.source take_call.taken take_call.past t.0 refl, t.1),
+      (line, takes_line supply old start mid new len line w call.outcome.1 c.waiting (sym c.past ∙ call.outcome.2) take_call.source take_call.taken take_call.past t.0 refl, t.1),
       record { row = t.2.row ∙ ap next_row (call.step.kept.row ∙ c.row); line = t.2.line },
     )
-not_taken_outcome rest given faults reference old start mid new len (IoError TooLong) take_call call c = absurd take_call.outcome
-not_taken_outcome rest given faults reference old start mid new len (IoError CannotOpen) take_call call c = take_call.outcome
-not_taken_outcome {B} rest given faults reference old start mid new len NoMemory take_call call c =
+not_taken_outcome supply old start mid new len (IoError TooLong) take_call call c = absurd take_call.outcome
+not_taken_outcome supply old start mid new len (IoError CannotOpen) take_call call c = take_call.outcome
+not_taken_outcome {B} supply old start mid new len NoMemory take_call call c =
     let t = take_call.outcome in
-    let w = waits_more rest given old start mid (waits_cleared rest given old start c) call.outcome.0 in (
+    let w = waits_more supply old start mid (waits_cleared supply old start c) call.outcome.0 in (
       record {
         got = w.got;
-        gave = subst (λ (x : B). Gave rest given (reader_source old) x w.got) (sym take_call.source) w.gave;
+        gave = subst (λ (x : B). Gave supply (reader_source old) x w.got) (sym take_call.source) w.gave;
         taken = take_call.taken ∙ w.taken;
         waits = t.0 ∙ w.waits;
         past = take_call.past ∙ w.past;
@@ -173,15 +174,15 @@ not_taken_outcome {B} rest given faults reference old start mid new len NoMemory
     )
 
 -- a line was there, and could not be taken
-pub line_not_taken : {B T : Type 0} (rest : Rest B) (given faults reference : B → ℕ) (old : Reader B) {start mid new : Reader B} (len : ℕ) (why : Error) → TakeCall {T = T} faults len mid (Err why) new → AwaitCall rest given faults reference start (Ok (Some len)) mid → Cleared old start
-    → LineCall rest given faults reference old (Err why) new
-line_not_taken {B} {T} rest given faults reference old {start} {mid} {new} len why take_call call c =
+pub line_not_taken : {B T : Type 0} (supply : Supply B) (old : Reader B) {start mid new : Reader B} (len : ℕ) (why : Error) → TakeCall {T = T} supply len mid (Err why) new → AwaitCall supply start (Ok (Some len)) mid → Cleared old start
+    → LineCall supply old (Err why) new
+line_not_taken {B} {T} supply old {start} {mid} {new} len why take_call call c =
     let kept = call.step.kept in record {
-      outcome = not_taken_outcome rest given faults reference old start mid new len why take_call call c;
+      outcome = not_taken_outcome supply old start mid new len why take_call call c;
       passed = take_call.passed ∙ kept.passed ∙ c.passed;
-      counts = subst (λ (f : IoFault → ℕ). CountsNext {T = Bool} f (Err why) (reader_faults faults new)) (call.step.counts ∙ c.faults faults) (counts_refusal T Bool _ why _ take_call.counts);
+      counts = subst (λ (f : IoFault → ℕ). CountsNext {T = Bool} f (Err why) (reader_faults supply new)) (call.step.counts ∙ c.faults supply) (counts_refusal T Bool _ why _ take_call.counts);
       lazy = λ h. take_call.source ∙ lazy_cleared old start mid c call.lazy h;
       stays_past = λ past. take_call.past ∙ call.step.stays_past (c.past ∙ past);
       limit = take_call.limit ∙ kept.limit ∙ c.limit;
-      same_reference = ap reference take_call.source ∙ kept.same_reference ∙ ap reference c.source;
+      same_reference = ap supply.reference take_call.source ∙ kept.same_reference ∙ ap supply.reference c.source;
     }

@@ -9,7 +9,7 @@ use Rattle.std.proofs.lemmas.Bool.Decides.{nat_tests}
 use Rattle.std.proofs.lemmas.List.{get_or_past}
 use Rattle.whiteread.specs.declared.stream.error.Error.{Error}
 use Rattle.whiteread.specs.declared.stream.error.Error.TheVariants.{TooShort, Leftovers, ParseError, IoError, NoMemory}
-use Rattle.whiteread.specs.Rendered.{last_of}
+use Rattle.whiteread.specs.Located.Rendered.{last_of}
 
 -- a byte that begins a character, and one that doesn't
 starts : (b : ℕ) → (128 ≤ b → 192 ≤ b) → is_char_start b ≡ true

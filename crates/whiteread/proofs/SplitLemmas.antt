@@ -4,8 +4,8 @@ use denote.Ref.{Bor}
 use Rattle.whiteread.specs.Words.{words}
 use Rattle.whiteread.specs.Stream.{Answer, TakesFirst, NextCall, answer_of}
 use Rattle.whiteread.specs.Reading.{Reaches, Reached}
-use Rattle.whiteread.specs.Found.{NextWord}
-use Rattle.whiteread.specs.Split.{split_text, split_position, words_left, SplitStep, GivesWord, split_stream}
+use Rattle.whiteread.specs.Words.Found.{NextWord}
+use Rattle.whiteread.specs.Words.Split.{split_text, split_position, words_left, SplitStep, GivesWord, split_stream}
 use Rattle.whiteread.specs.declared.stream.split.SplitAsciiWhitespace.{SplitAsciiWhitespace}
 use Rattle.whiteread.proofs.NextLemmas.{told_call}
 

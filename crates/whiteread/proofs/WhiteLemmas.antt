@@ -11,8 +11,8 @@ use Rattle.std.proofs.lemmas.Bool.{cond-true}
 use Rattle.std.proofs.lemmas.Str.{IsUtf8-from_is_utf8, is_utf8-from_IsUtf8, cons_from_encodes, chars-encodes, encodes-chars, scalars-chars, length-le-encodes}
 use Rattle.whiteread.specs.Words.{white_words, runs, EndsRun}
 use Rattle.whiteread.specs.Stream.{TakesFirst}
-use Rattle.whiteread.specs.White.{GivesWhite}
-use Rattle.whiteread.specs.WordProofs.{pass-nil, pass-cons, all_white, no_word}
+use Rattle.whiteread.specs.Words.White.{GivesWhite}
+use Rattle.whiteread.specs.Inner.WordProofs.{pass-nil, pass-cons, all_white, no_word}
 use Rattle.whiteread.proofs.WordLemmas.{runs-gap, runs-run}
 
 none_white : (cs : List ℕ) → NonePass is_whitespace cs → AllPass (λ c. not (is_whitespace c)) cs

@@ -3,7 +3,7 @@ use Rattle.std.proofs.Common.{◌≡◌, ◌≤◌, ◌<◌, ℕ, suc, zero, tru
 use Rattle.std.specs.Prelude.{filter}
 use Rattle.std.specs.List.{AllPass}
 use Rattle.std.proofs.lemmas.Bool.{cond-false, not-true}
-use Rattle.whiteread.specs.WordProofs.{Test, pass-head, pass-tail, pass-cons, pass-nil, pieces-blank, runs-blank, runs-none}
+use Rattle.whiteread.specs.Inner.WordProofs.{Test, pass-head, pass-tail, pass-cons, pass-nil, pieces-blank, runs-blank, runs-none}
 use Rattle.whiteread.specs.Words.{Words, runs, pieces, onto_first, is_filled, EndsRun, AreLongestRuns}
 
 abbrev not-blank : Test → Test

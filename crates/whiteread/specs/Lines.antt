@@ -1,20 +1,18 @@
 -- The lines of some bytes.
+pub mod Laws
+pub mod OneLine
 use Rattle.std.specs.Prelude.{◌≡◌, ◌⊎◌, ℕ, ◌<◌, ◌==◌, Bool, false, not, ◌||◌, List, [], ◌∷◌, ◌++◌, length, if◌then◌else◌}
 use Rattle.std.specs.List.{AllPass}
+use Rattle.whiteread.specs.Words.{onto_first}
 
 -- The byte that ends a line.
 abbrev pub line_feed : ℕ
 line_feed = 10
 
--- A byte in front of the first of the pieces.
-abbrev pub with_first : ℕ → List (List ℕ) → List (List ℕ)
-with_first byte [] = (byte ∷ []) ∷ []
-with_first byte (piece ∷ pieces) = (byte ∷ piece) ∷ pieces
-
 -- The lines of bytes: the pieces that line feeds end, without them, and a nonempty rest.
 abbrev pub lines_of : List ℕ → List (List ℕ)
 lines_of [] = []
-lines_of (byte ∷ bytes) = if byte == line_feed then [] ∷ lines_of bytes else with_first byte (lines_of bytes)
+lines_of (byte ∷ bytes) = if byte == line_feed then [] ∷ lines_of bytes else onto_first byte (lines_of bytes)
 
 -- None of these bytes is a line feed.
 abbrev pub HasNoFeed : List ℕ → Type 0

@@ -1,11 +1,13 @@
 -- An error with its place in the input, and what it prints.
+pub mod ErrorText
+pub mod Rendered
 use Rattle.std.specs.Prelude.{◌≡◌, ℕ, Bool, true, false, not, ◌&&◌, ◌⊎◌, List, ◌++◌, Option, None, Some, Result, Ok, Err, replicate, codes, decimal, nat_lt, if◌then◌else◌}
 use Rattle.std.specs.Option.{unwrap_or}
 use Rattle.whiteread.specs.declared.stream.error.Error.{Error}
 use Rattle.whiteread.specs.declared.stream.error.Error.TheVariants.{TooShort, Leftovers, ParseError, IoError, NoMemory}
 use Rattle.whiteread.specs.declared.stream.error.Progress.TheVariants.{Nothing, Partial}
 use Rattle.whiteread.specs.declared.stream.error.IoFault.TheVariants.{ReadFault, NotUtf8, TooLong, CannotOpen}
-use Rattle.whiteread.specs.Rendered.{rendered}
+use Rattle.whiteread.specs.Located.Rendered.{rendered}
 
 -- An error, its row and the bytes of the line that were passed, and the text that shows the line.
 pub record Located : Type 0 where
@@ -48,6 +50,11 @@ unplaced error = record { error = error; place = None; rendered = None }
 -- The result is the error with its place and its text, or memory for the text was refused.
 abbrev pub IsLocated : Error → ℕ → ℕ → List ℕ → Bool → Located → Type 0
 IsLocated error row passed line cheap result = (result ≡ located error row passed line cheap) ⊎ ((is_shown error row cheap ≡ true) × (result ≡ unplaced NoMemory))
+
+-- The answer is told as it is, and an error with this row and the bytes of this line that were passed.
+abbrev pub IsTold : {T : Type 0} → Bool → Result T Error → ℕ → ℕ → List ℕ → Result T Located → Type 0
+IsTold cheap (Ok value) row passed line result = result ≡ Ok value
+IsTold cheap (Err why) row passed line result = (error : Located) × (result ≡ Err error) × IsLocated why row passed line cheap error
 
 -- An answer with the error alone, without its place.
 abbrev pub inner_answer : {T : Type 0} → Result T Located → Result T Error

@@ -1,6 +1,11 @@
 -- What a `Reader` shows of itself.
+pub mod Pending
+pub mod ReaderWords
+pub mod ReaderCalls
+pub mod Opened
 use Rattle.std.specs.Prelude.{◌≡◌, ℕ, List, Bool, string_bytes}
-use Rattle.whiteread.specs.Pending.{pending_bytes}
+use Rattle.edge_io.specs.Supply.{Supply}
+use Rattle.whiteread.specs.ReaderState.Pending.{pending_bytes}
 use Rattle.whiteread.specs.declared.reader.Reader.{Reader}
 use Rattle.whiteread.specs.declared.stream.error.IoFault.{IoFault}
 use Rattle.whiteread.specs.declared.stream.error.IoFault.TheVariants.{ReadFault, NotUtf8, TooLong, CannotOpen}
@@ -45,8 +50,8 @@ fault_counts failed not_utf8 too_long TooLong = too_long
 fault_counts failed not_utf8 too_long CannotOpen = 0
 
 -- How often a reader met each fault.
-abbrev pub reader_faults : {B : Type 0} → (B → ℕ) → Reader B → IoFault → ℕ
-reader_faults faults r = fault_counts (faults r.source) r.not_utf8 r.too_long
+abbrev pub reader_faults : {B : Type 0} → Supply B → Reader B → IoFault → ℕ
+reader_faults supply r = fault_counts (supply.faults r.source) r.not_utf8 r.too_long
 
 -- A reader stays in its line: all that two states show is the same, but for the bytes of the line that were passed.
 pub record StaysInLine {B : Type 0} (old new : Reader B) : Type 0 where
@@ -57,7 +62,7 @@ pub record StaysInLine {B : Type 0} (old new : Reader B) : Type 0 where
   pub waiting : reader_waiting new ≡ reader_waiting old
   pub line : reader_line new ≡ reader_line old
   pub row : reader_row new ≡ reader_row old
-  pub faults : (faults : B → ℕ) → reader_faults faults new ≡ reader_faults faults old
+  pub faults : (supply : Supply B) → reader_faults supply new ≡ reader_faults supply old
 
 -- Two states of a reader show the same.
 pub record ShowsSame {B : Type 0} (old new : Reader B) : Type 0 where

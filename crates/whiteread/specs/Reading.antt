@@ -1,10 +1,17 @@
 -- What reading a type means, and what a call of its `read` does to a stream.
-use Rattle.std.specs.Prelude.{◌≡◌, ℕ, ◌+◌, ◌≤◌, List, [], ◌∷◌, ◌++◌, length, Bool, IsTrue, ◌||◌, Option, Some, None, Result, Ok, Err, IfOk, ⊤}
+pub mod Reads
+pub mod Tuples
+pub mod Adapted
+pub mod Whole
+pub mod Laws
+pub mod Reach
+use Rattle.std.specs.Prelude.{◌≡◌, ℕ, ◌+◌, ◌≤◌, List, [], ◌∷◌, ◌++◌, length, Bool, IsTrue, ◌||◌, Option, Some, None, Result, Ok, Err, IfOk, IfErr, ⊤}
 use Rattle.whiteread.specs.Words.{Words}
-use Rattle.whiteread.specs.Stream.{Stream, Answer, OneRises, OnNoMemory}
+use Rattle.whiteread.specs.Stream.{Stream, Answer, OneRises}
 use Rattle.whiteread.specs.declared.stream.error.Error.{Error}
 use Rattle.whiteread.specs.declared.stream.error.Error.TheVariants.{TooShort, Leftovers, ParseError, IoError, NoMemory}
 use Rattle.whiteread.specs.declared.stream.error.IoFault.{IoFault}
+use Rattle.whiteread.specs.declared.stream.error.Progress.{Progress}
 
 -- A reading relates a list of words, the answer that it gives, and the words left after it.
 abbrev pub Relation : Type 0 → Type 1
@@ -52,15 +59,6 @@ abbrev pub LowersBy : {T : Type 0} → ℕ → ℕ → Result T Error → ℕ �
 LowersBy least old (Ok value) new = new + least ≤ old
 LowersBy least old (Err why) new = new ≤ old
 
--- TooShort comes only at the end.
-abbrev pub EndsAtShort : {T : Type 0} → Result T Error → Type 0 → Type 0
-EndsAtShort (Ok value) at_end = ⊤
-EndsAtShort (Err (TooShort progress)) at_end = at_end
-EndsAtShort (Err Leftovers) at_end = ⊤
-EndsAtShort (Err ParseError) at_end = ⊤
-EndsAtShort (Err (IoError fault)) at_end = ⊤
-EndsAtShort (Err NoMemory) at_end = ⊤
-
 -- `read` never answers Leftovers; where it answers IoError, the count of that fault rose and no other; no count falls,
 -- and only where memory is wanting may more have been met.
 abbrev pub CountsRead : {T : Type 0} → (IoFault → ℕ) → Result T Error → (IoFault → ℕ) → Type 0
@@ -73,12 +71,8 @@ CountsRead old (Err NoMemory) new = (fault : IoFault) → old fault ≤ new faul
 
 -- The one call of `next` gave a word where `read` answers ParseError, and None where it answers TooShort.
 abbrev pub TellsFound : {T : Type 0} → Result T Error → Answer → Type 0
-TellsFound (Ok value) found = ⊤
-TellsFound (Err (TooShort progress)) found = found ≡ Ok None
-TellsFound (Err Leftovers) found = ⊤
-TellsFound (Err ParseError) found = (word : List ℕ) × (found ≡ Ok (Some word))
-TellsFound (Err (IoError fault)) found = ⊤
-TellsFound (Err NoMemory) found = ⊤
+TellsFound answer found =
+    IfErr answer (λ why. (why ≡ ParseError → (word : List ℕ) × (found ≡ Ok (Some word))) × ((progress : Progress) → why ≡ TooShort progress → found ≡ Ok None))
 
 -- Each of these streams comes from the one before it by a call of `next`, and the last of them is this one.
 abbrev pub Reaches : {S : Type 0} → (S → Answer → S → Type 0) → S → List S → S → Type 0
@@ -101,8 +95,8 @@ StepsBy some_calls step old answer new = Reached step old new
 pub record ReadCall {S T : Type 0} (stream : Stream S) (reading : Reading T) (old : S) (answer : Result T Error) (new : S) : Type 0 where
   pub words : ReadsTold reading.reads (stream.left old) answer (stream.left new)
   pub bound : LowersBy reading.least (stream.bound old) answer (stream.bound new)
-  pub short : EndsAtShort answer (stream.at_end new)
+  pub short : IfErr answer (λ why. (progress : Progress) → why ≡ TooShort progress → stream.at_end new)
   pub ends : IfOk answer (λ value. reading.ends value → stream.at_end new)
   pub counts : CountsRead (stream.faults old) answer (stream.faults new)
   pub step : StepsBy reading.calls stream.step old answer new
-  pub memory : OnNoMemory answer (IsTrue (reading.allocates || stream.allocates))
+  pub memory : IfErr answer (λ why. why ≡ NoMemory → IsTrue (reading.allocates || stream.allocates))

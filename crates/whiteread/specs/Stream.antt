@@ -1,5 +1,5 @@
 -- What a stream of words means, and what a call of its `next` does.
-use Rattle.std.specs.Prelude.{◌≡◌, ◌≢◌, ℕ, ◌<◌, ◌≤◌, List, [], ◌∷◌, length, Bool, false, IsTrue, Option, Some, None, Result, Ok, Err, ⊤}
+use Rattle.std.specs.Prelude.{◌≡◌, ◌≢◌, ℕ, ◌<◌, ◌≤◌, List, [], ◌∷◌, length, Bool, false, IsTrue, Option, Some, None, Result, Ok, Err, IfErr, ⊤}
 use denote.Ref.{Bor}
 use Rattle.edge_io.specs.Ends.{Rises}
 use Rattle.whiteread.specs.Words.{Words}
@@ -81,15 +81,6 @@ CountsNext old (Err ParseError) new = ⊥
 CountsNext old (Err (IoError fault)) new = OneRises fault old new
 CountsNext old (Err NoMemory) new = new ≡ old
 
--- Want of memory is answered only where this holds.
-abbrev pub OnNoMemory : {T : Type 0} → Result T Error → Type 0 → Type 0
-OnNoMemory (Ok value) may = ⊤
-OnNoMemory (Err (TooShort progress)) may = ⊤
-OnNoMemory (Err Leftovers) may = ⊤
-OnNoMemory (Err ParseError) may = ⊤
-OnNoMemory (Err (IoError fault)) may = ⊤
-OnNoMemory (Err NoMemory) may = may
-
 -- A call of `next` does this.
 pub record NextCall {S : Type 0} (stream : Stream S) (old : S) (answer : Answer) (new : S) : Type 0 where
   pub words : TakesFirst (stream.left old) answer (stream.left new)
@@ -97,4 +88,4 @@ pub record NextCall {S : Type 0} (stream : Stream S) (old : S) (answer : Answer)
   pub end : EndsAtNone answer (stream.at_end new)
   pub counts : CountsNext (stream.faults old) answer (stream.faults new)
   pub step : stream.step old answer new
-  pub memory : OnNoMemory answer (IsTrue stream.allocates)
+  pub memory : IfErr answer (λ why. why ≡ NoMemory → IsTrue stream.allocates)

@@ -1,4 +1,7 @@
 -- The words of a text: its longest runs of bytes above 0x20, in order.
+pub mod Found
+pub mod Split
+pub mod White
 use Rattle.std.specs.Prelude.{◌≡◌, ℕ, ◌<◌, Bool, true, false, not, List, [], ◌∷◌, ◌++◌, length, map, filter, nat_le, if◌then◌else◌, chars, encode_utf8_all}
 use Rattle.std.specs.Char.{is_whitespace}
 use Rattle.std.specs.List.{AllPass}

@@ -1,9 +1,9 @@
 // Adapters, which read in another way than their contents.
 ghost use Rattle.std.specs.Prelude.{◌≡◌, [], true, false};
 ghost use Rattle.whiteread.specs.Reading.{ReadCall};
-ghost use Rattle.whiteread.specs.Tuples.{around};
-ghost use Rattle.whiteread.specs.Adapted.{one_skipped, all_skipped, counted, to_zero};
-ghost use Rattle.whiteread.specs.ReadingProofs.{around_front, one_skipped_front, all_skipped_front, counted_front, to_zero_front, eats_word};
+ghost use Rattle.whiteread.specs.Reading.Tuples.{around};
+ghost use Rattle.whiteread.specs.Reading.Adapted.{one_skipped, all_skipped, counted, to_zero};
+ghost use Rattle.whiteread.specs.Inner.ReadingProofs.{around_front, one_skipped_front, all_skipped_front, counted_front, to_zero_front, eats_word};
 
 use crate::stream::{Eats, Error, FromStream, IsZero, Result, StrStream, read_later};
 use std::alloc::Global;

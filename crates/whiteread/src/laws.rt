@@ -1,10 +1,9 @@
 // Laws that no call carries.
 ghost use Rattle.whiteread.specs.Words.{words, is_blank};
-ghost use Rattle.whiteread.specs.Laws.{IsOnlyRuns, NoneAtNothing, TakesAWord, WordsDecide};
-ghost use Rattle.whiteread.specs.ReaderWords.{reader_stream};
+ghost use Rattle.whiteread.specs.Reading.Laws.{IsOnlyRuns, NoneAtNothing, TakesAWord};
+ghost use Rattle.whiteread.specs.Lines.Laws.{HandsOutTheNext};
 
 use crate::stream::{Eats, FromStream};
-use edge_io::Source;
 
 /// The words of a text are its longest runs of bytes above 0x20, and no other list is.
 pub fn words_are_longest_runs(text: &str)
@@ -23,7 +22,7 @@ pub fn eats_a_word<T: Eats>()
     ensures { TakesAWord T.reading.reads }
 {}
 
-/// What `continue_` of two readers answers depends on the words left alone, where the words give it.
-pub fn words_left_decide<T: FromStream, A: Source, B: Source>()
-    ensures { WordsDecide (reader_stream A.rest A.given A.faults A.reference) (reader_stream B.rest B.given B.faults B.reference) T.reading }
+/// A line as it stands in front of other bytes, as `advance_line` hands it out, is the next of the input's lines.
+pub fn a_line_is_the_next()
+    ensures { HandsOutTheNext }
 {}

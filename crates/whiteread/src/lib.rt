@@ -2,7 +2,7 @@
 #![tactic(auto)]
 
 ghost use Rattle.whiteread.specs.Words.{words};
-ghost use Rattle.whiteread.specs.Whole.{ReadsWhole};
+ghost use Rattle.whiteread.specs.Reading.Whole.{ReadsWhole};
 
 pub mod adapters;
 pub mod laws;
@@ -23,6 +23,3 @@ pub fn parse_string<T: FromStream>(alloc: Global, s: &str) -> stream::Result<T>
     let mut words = SplitAsciiWhitespace::new(s);
     read_whole(alloc, &mut words)
 }
-
-#[cfg(test)]
-mod tests;

@@ -1,18 +1,12 @@
 // Lines of a source, read in pieces, and the values that are read from them.
 ghost use Rattle.std.specs.Prelude.{◌≡◌, ◌≤◌, ◌↔◌, [], true, false, IsTrue, IfErr, length, string_bytes, IsCharBoundary};
 ghost use Rattle.whiteread.specs.Lines.{HasNoFeed};
-ghost use Rattle.whiteread.specs.Pending.{pending_bytes};
+ghost use Rattle.whiteread.specs.ReaderState.Pending.{pending_bytes};
 
 pub(crate) mod ends;
 mod error;
-#[cfg(test)]
-mod error_tests;
-#[cfg(test)]
-mod line_tests;
 pub(crate) mod one_line;
 mod pending;
-#[cfg(test)]
-mod value_tests;
 mod values;
 mod words;
 
@@ -48,9 +42,9 @@ pub struct Reader<B> {
 }
 
 impl<B: Source> Reader<B> {
-    ghost use Rattle.whiteread.specs.ReaderState.{reader_source, reader_limit, reader_taken, reader_past, reader_waiting, reader_line, reader_passed, reader_row, ShowsSame};
+    ghost use Rattle.whiteread.specs.ReaderState.{reader_source, reader_limit, reader_taken, reader_past, reader_waiting, reader_line, reader_passed, reader_row, reader_faults, fault_counts, ShowsSame};
     ghost use Rattle.whiteread.specs.LineCall.{LineCall};
-    ghost use Rattle.whiteread.specs.LineSteps.{AwaitCall, PieceCall, TakeCall};
+    ghost use Rattle.whiteread.specs.Inner.LineSteps.{AwaitCall, PieceCall, TakeCall};
     ghost use Rattle.whiteread.specs.Located.{inner_answer, unplaced};
 
     /// A reader over the source, with no line yet, that takes at most `limit` bytes. It takes no memory.
@@ -63,6 +57,7 @@ impl<B: Source> Reader<B> {
         ensures line { reader_line result ≡ [] }
         ensures passed { reader_passed result ≡ 0 }
         ensures row { reader_row result ≡ 0 }
+        ensures faults { reader_faults B.supply result ≡ fault_counts (B.supply.faults buf) 0 0 }
     {
         Reader {
             alloc,
@@ -82,7 +77,7 @@ impl<B: Source> Reader<B> {
     /// Reads a new line, whose words stay to be read, and answers true; or answers false at the end of the input.
     /// It refuses by `IoError` and `NoMemory` alone.
     pub fn advance_line(&mut self) -> Result<bool>
-        ensures line { LineCall B.rest B.given B.faults B.reference self.old (inner_answer result) self.new }
+        ensures line { LineCall B.supply self.old (inner_answer result) self.new }
         ensures no_place { IfErr result (λ error. error ≡ unplaced error.error) }
     {
         match self.read_line() {
@@ -116,7 +111,7 @@ impl<B: Source> Reader<B> {
 
     /// Reads a new line: true where there is one, false at the end of the input.
     pub(crate) fn read_line(&mut self) -> stream::Result<bool>
-        ensures { LineCall B.rest B.given B.faults B.reference self.old result self.new }
+        ensures { LineCall B.supply self.old result self.new }
     {
         self.line.clear();
         self.passed = 0;
@@ -130,7 +125,7 @@ impl<B: Source> Reader<B> {
 
     /// Reads until a whole line waits, and answers its length; None where the input has ended.
     fn await_line(&mut self) -> stream::Result<Option<usize>>
-        ensures { AwaitCall B.rest B.given B.faults B.reference self.old result self.new }
+        ensures { AwaitCall B.supply self.old result self.new }
     {
         'reads: loop {
             if let Some(len) = self.waiting.line_len() {
@@ -149,7 +144,7 @@ impl<B: Source> Reader<B> {
     /// Makes one read, and answers whether it gave bytes. At the limit it asks for one byte, which is past it.
     fn read_piece(&mut self) -> stream::Result<bool>
         requires { HasNoFeed (reader_waiting self.old) }
-        ensures { PieceCall B.rest B.given B.faults B.reference self.old result self.new }
+        ensures { PieceCall B.supply self.old result self.new }
     {
         if self.past {
             self.too_long = self.too_long.saturating_add(1);
@@ -169,7 +164,7 @@ impl<B: Source> Reader<B> {
         requires no_line { HasNoFeed (reader_waiting self.old) }
         requires full { reader_taken self.old ≡ reader_limit self.old }
         requires within { reader_past self.old ≡ false }
-        ensures { PieceCall B.rest B.given B.faults B.reference self.old result self.new }
+        ensures { PieceCall B.supply self.old result self.new }
     {
         let mut byte = [0];
         match self.source.read(&mut byte) {
@@ -188,7 +183,7 @@ impl<B: Source> Reader<B> {
         requires waits { len ≤ length (reader_waiting self.old) }
         requires no_line { reader_line self.old ≡ [] }
         requires none_passed { reader_passed self.old ≡ 0 }
-        ensures { TakeCall B.faults len self.old result self.new }
+        ensures { TakeCall B.supply len self.old result self.new }
     {
         let Ok(text) = std::str::from_utf8(self.waiting.front(len)) else {
             self.waiting.drop_front(len);

@@ -34,7 +34,7 @@ pub trait StrStream {
 
 /// Splits a text at bytes of at most 0x20.
 pub trait StrExt {
-    ghost use Rattle.whiteread.specs.Split.{split_text, split_position};
+    ghost use Rattle.whiteread.specs.Words.Split.{split_text, split_position};
 
     ghost text: { Self → List ℕ };
 

@@ -1,6 +1,6 @@
 // Readers over standard input and over a file, and the values of a whole input.
 ghost use Rattle.std.specs.Prelude.{IfOk, IfErr};
-ghost use Rattle.whiteread.specs.Opened.{IsNew, IsNotOpened, FinishesNew, OpensAndFinishes, ReadsNewLine};
+ghost use Rattle.whiteread.specs.ReaderState.Opened.{IsNew, IsNotOpened, FinishesNew, OpensAndFinishes, ReadsNewLine};
 
 use crate::reader::one_line::parse_line_from;
 use crate::reader::{Error, Reader, Result};
@@ -13,7 +13,7 @@ impl Reader<StdinSource> {
     /// A reader over standard input, that takes at most `limit` bytes. Nothing is read yet. Bytes that it has taken
     /// are lost for other readers of standard input.
     pub fn from_stdin_naive(rt: &HostRuntime, alloc: Global, limit: u64) -> Reader<StdinSource>
-        ensures { IsNew limit result }
+        ensures { IsNew ⟦<StdinSource as Source>⟧.supply limit result }
     {
         Reader::new(alloc, StdinSource::new(rt), limit)
     }
@@ -27,7 +27,7 @@ impl Reader<FileSource> {
         path: &str,
         limit: u64,
     ) -> Result<Reader<FileSource>>
-        ensures ok { IfOk result (λ reader. IsNew limit reader) }
+        ensures ok { IfOk result (λ reader. IsNew ⟦<FileSource as Source>⟧.supply limit reader) }
         ensures err { IfErr result IsNotOpened }
     {
         match FileSource::open(rt, alloc, path) {
@@ -42,7 +42,7 @@ impl Reader<FileSource> {
 
 /// Reads a value from one line of standard input; the row is for its errors.
 pub fn parse_line<T: FromStream>(rt: &HostRuntime, alloc: Global, row: u64) -> Result<T>
-    ensures { ReadsNewLine ⟦<StdinSource as Source>⟧.rest ⟦<StdinSource as Source>⟧.given ⟦<StdinSource as Source>⟧.faults T.reading row T.REQUEST_CHEAP_ERROR result }
+    ensures { ReadsNewLine ⟦<StdinSource as Source>⟧.supply T.reading row T.REQUEST_CHEAP_ERROR result }
 {
     let mut source = StdinSource::new(rt);
     parse_line_from(alloc, &mut source, row)
@@ -50,7 +50,7 @@ pub fn parse_line<T: FromStream>(rt: &HostRuntime, alloc: Global, row: u64) -> R
 
 /// Reads a value from the whole standard input, of which it takes at most `limit` bytes.
 pub fn parse_stdin<T: FromStream>(rt: &HostRuntime, alloc: Global, limit: u64) -> Result<T>
-    ensures { FinishesNew ⟦<StdinSource as Source>⟧.rest ⟦<StdinSource as Source>⟧.given ⟦<StdinSource as Source>⟧.faults ⟦<StdinSource as Source>⟧.reference T.reading limit T.REQUEST_CHEAP_ERROR result }
+    ensures { FinishesNew ⟦<StdinSource as Source>⟧.supply T.reading limit T.REQUEST_CHEAP_ERROR result }
 {
     let mut reader = Reader::from_stdin_naive(rt, alloc, limit);
     reader.finish()
@@ -63,7 +63,7 @@ pub fn parse_file<T: FromStream>(
     path: &str,
     limit: u64,
 ) -> Result<T>
-    ensures { OpensAndFinishes ⟦<FileSource as Source>⟧.rest ⟦<FileSource as Source>⟧.given ⟦<FileSource as Source>⟧.faults ⟦<FileSource as Source>⟧.reference T.reading limit T.REQUEST_CHEAP_ERROR result }
+    ensures { OpensAndFinishes ⟦<FileSource as Source>⟧.supply T.reading limit T.REQUEST_CHEAP_ERROR result }
 {
     let mut reader = Reader::open(rt, alloc, path, limit)?;
     reader.finish()

@@ -5,7 +5,7 @@ ghost use Rattle.whiteread.specs.declared.stream.error.Error.TheVariants.{TooSho
 ghost use Rattle.whiteread.specs.declared.stream.error.Progress.{Progress};
 ghost use Rattle.whiteread.specs.declared.stream.error.IoFault.{IoFault};
 ghost use Rattle.whiteread.specs.Located.{error_name, is_placed, IsLocated, rule, unplaced};
-ghost use Rattle.whiteread.specs.Rendered.{last_of, long_text, mark, rendered, shown, shown_text, under};
+ghost use Rattle.whiteread.specs.Located.Rendered.{last_of, long_text, mark, rendered, shown, shown_text, under};
 
 use crate::stream;
 use crate::stream::{IoFault, Progress};

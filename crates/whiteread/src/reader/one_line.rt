@@ -1,5 +1,5 @@
 // One line of a source, read without a reader.
-ghost use Rattle.whiteread.specs.OneLine.{GivesByte, TakesOneLine, ReadsOneLine, ReadsText};
+ghost use Rattle.whiteread.specs.Lines.OneLine.{GivesByte, TakesOneLine, ReadsOneLine, ReadsText};
 
 use crate::reader::{Error, Result};
 use crate::stream;
@@ -18,7 +18,7 @@ pub fn parse_line_from<T: FromStream, S: Source>(
     source: &mut S,
     row: u64,
 ) -> Result<T>
-    ensures { ReadsOneLine S.rest S.given S.faults T.reading row T.REQUEST_CHEAP_ERROR source.old result source.new }
+    ensures { ReadsOneLine S.supply T.reading row T.REQUEST_CHEAP_ERROR source.old result source.new }
 {
     let bytes = match take_line(alloc, source) {
         Ok(bytes) => bytes,
@@ -50,7 +50,7 @@ fn read_text<T: FromStream>(alloc: Global, line: &str, row: u64) -> Result<T>
 
 /// Takes the bytes of one line.
 fn take_line<S: Source>(alloc: Global, source: &mut S) -> stream::Result<Vec<u8>>
-    ensures { TakesOneLine S.rest S.given S.faults source.old result source.new }
+    ensures { TakesOneLine S.supply source.old result source.new }
 {
     let mut line = Vec::new(alloc);
     'bytes: loop {
@@ -71,7 +71,7 @@ fn take_line<S: Source>(alloc: Global, source: &mut S) -> stream::Result<Vec<u8>
 
 /// Reads one byte; None at the end of the input.
 fn read_byte<S: Source>(source: &mut S) -> stream::Result<Option<u8>>
-    ensures { GivesByte S.rest S.given S.faults source.old result source.new }
+    ensures { GivesByte S.supply source.old result source.new }
 {
     let mut byte = [0];
     match source.read(&mut byte) {

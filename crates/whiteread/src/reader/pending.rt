@@ -4,7 +4,7 @@ ghost use Rattle.std.specs.List.{position};
 ghost use Rattle.whiteread.specs.Lines.{HasNoFeed, IsWhole, line_feed};
 ghost use Rattle.std.specs.Io.KnownBytes.{IsAtEnd};
 ghost use Rattle.edge_io.specs.Ends.{Rises};
-ghost use Rattle.whiteread.specs.Given.{Gave};
+ghost use Rattle.edge_io.specs.Supply.{Gave};
 
 use crate::stream::{Error, IoFault, Result};
 use edge_io::Source;
@@ -29,7 +29,7 @@ pub(crate) struct Pending {
 }
 
 impl Pending {
-    ghost use Rattle.whiteread.specs.Pending.{pending_bytes};
+    ghost use Rattle.whiteread.specs.ReaderState.Pending.{pending_bytes};
 
     pub(crate) fn new(alloc: Global) -> Pending
         ensures { pending_bytes result ≡ [] }
@@ -83,13 +83,13 @@ impl Pending {
 
     /// Makes one read of at most so many bytes, puts what it gives in at the back, and answers how many there were.
     pub(crate) fn read_from<S: Source>(&mut self, source: &mut S, ask: usize) -> Result<usize>
-        ensures bytes { (got : List ℕ) × Gave S.rest S.given source.old source.new got × (pending_bytes self.new ≡ pending_bytes self.old ++ got) × (length got ≤ ask) × MatchResult result (λ count. count ≡ length got) (λ _. got ≡ []) }
-        ensures end { IfOk result (λ count. count ≡ 0 → 0 < ask → IsAtEnd (S.rest source.new)) }
+        ensures bytes { (got : List ℕ) × Gave S.supply source.old source.new got × (pending_bytes self.new ≡ pending_bytes self.old ++ got) × (length got ≤ ask) × MatchResult result (λ count. count ≡ length got) (λ _. got ≡ []) }
+        ensures end { IfOk result (λ count. count ≡ 0 → 0 < ask → IsAtEnd (S.supply.rest source.new)) }
         ensures causes { IfErr result (λ why. (why ≡ Error.NoMemory) ⊎ (why ≡ Error.IoError IoFault.ReadFault)) }
-        ensures no_fault { OnOk result (S.faults source.new ≡ S.faults source.old) }
-        ensures fault { IsErrOf result (Error.IoError IoFault.ReadFault) → Rises (S.faults source.old) (S.faults source.new) }
+        ensures no_fault { OnOk result (S.supply.faults source.new ≡ S.supply.faults source.old) }
+        ensures fault { IsErrOf result (Error.IoError IoFault.ReadFault) → Rises (S.supply.faults source.old) (S.supply.faults source.new) }
         ensures memory { IsErrOf result Error.NoMemory → source.new ≡ source.old }
-        ensures same_reference { S.reference source.new ≡ S.reference source.old }
+        ensures same_reference { S.supply.reference source.new ≡ S.supply.reference source.old }
     {
         self.shift();
         let len = self.bytes.len();

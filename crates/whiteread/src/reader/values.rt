@@ -1,10 +1,12 @@
 // Values that are read from the words of a reader.
 ghost use Rattle.whiteread.specs.Reading.{ReadCall};
-ghost use Rattle.whiteread.specs.Whole.{WholeCall};
-ghost use Rattle.whiteread.specs.Split.{split_stream};
+ghost use Rattle.whiteread.specs.Reading.Whole.{WholeCall};
+ghost use Rattle.whiteread.specs.Words.Split.{split_stream};
 ghost use Rattle.whiteread.specs.LineCall.{LineCall};
-ghost use Rattle.whiteread.specs.ReaderWords.{reader_stream};
-ghost use Rattle.whiteread.specs.ReaderCalls.{IsTold, TellsCall, InLine, OverNewLine, LendsNext};
+ghost use Rattle.whiteread.specs.ReaderState.ReaderWords.{reader_stream};
+ghost use Rattle.whiteread.specs.Located.{IsTold};
+ghost use Rattle.whiteread.specs.ReaderState.{reader_row, reader_passed, reader_line};
+ghost use Rattle.whiteread.specs.ReaderState.ReaderCalls.{TellsCall, InLine, OverNewLine, LendsNext};
 
 use crate::reader::{Error, Reader, Result};
 use crate::stream;
@@ -14,7 +16,7 @@ use edge_io::Source;
 impl<B: Source> Reader<B> {
     /// Reads a value from the words left, across lines.
     pub fn continue_<T: FromStream>(&mut self) -> Result<T>
-        ensures { TellsCall (ReadCall (reader_stream B.rest B.given B.faults B.reference) T.reading) T.REQUEST_CHEAP_ERROR self.old result self.new }
+        ensures { TellsCall (ReadCall (reader_stream B.supply) T.reading) T.REQUEST_CHEAP_ERROR self.old result self.new }
     {
         let alloc = self.alloc;
         let answer = T::read(alloc, self);
@@ -23,14 +25,14 @@ impl<B: Source> Reader<B> {
 
     /// The same as `continue_`.
     pub fn parse<T: FromStream>(&mut self) -> Result<T>
-        ensures { TellsCall (ReadCall (reader_stream B.rest B.given B.faults B.reference) T.reading) T.REQUEST_CHEAP_ERROR self.old result self.new }
+        ensures { TellsCall (ReadCall (reader_stream B.supply) T.reading) T.REQUEST_CHEAP_ERROR self.old result self.new }
     {
         self.continue_()
     }
 
     /// Reads a value, and answers `Leftovers` where a word is left after it.
     pub fn finish<T: FromStream>(&mut self) -> Result<T>
-        ensures { TellsCall (WholeCall (reader_stream B.rest B.given B.faults B.reference) T.reading) T.REQUEST_CHEAP_ERROR self.old result self.new }
+        ensures { TellsCall (WholeCall (reader_stream B.supply) T.reading) T.REQUEST_CHEAP_ERROR self.old result self.new }
     {
         let alloc = self.alloc;
         let answer = read_whole(alloc, self);
@@ -55,7 +57,7 @@ impl<B: Source> Reader<B> {
 
     /// Reads a new line, and a value from its words. At the end of the input it answers `TooShort(Nothing)`.
     pub fn start_line<T: FromStream>(&mut self) -> Result<T>
-        ensures { TellsCall (OverNewLine (LineCall B.rest B.given B.faults B.reference) (InLine (ReadCall split_stream T.reading))) T.REQUEST_CHEAP_ERROR self.old result self.new }
+        ensures { TellsCall (OverNewLine (LineCall B.supply) (InLine (ReadCall split_stream T.reading))) T.REQUEST_CHEAP_ERROR self.old result self.new }
     {
         let answer = self.read_new_line();
         self.tell(answer, T::REQUEST_CHEAP_ERROR)
@@ -63,7 +65,7 @@ impl<B: Source> Reader<B> {
 
     /// Reads a new line, and a value from all its words. At the end of the input it answers `TooShort(Nothing)`.
     pub fn line<T: FromStream>(&mut self) -> Result<T>
-        ensures { TellsCall (OverNewLine (LineCall B.rest B.given B.faults B.reference) (InLine (WholeCall split_stream T.reading))) T.REQUEST_CHEAP_ERROR self.old result self.new }
+        ensures { TellsCall (OverNewLine (LineCall B.supply) (InLine (WholeCall split_stream T.reading))) T.REQUEST_CHEAP_ERROR self.old result self.new }
     {
         let answer = self.read_whole_new_line();
         self.tell(answer, T::REQUEST_CHEAP_ERROR)
@@ -73,7 +75,7 @@ impl<B: Source> Reader<B> {
     /// answers `TooShort(Nothing)`. Its errors are those of a value that reads nothing. A proof that needs to know the
     /// reader after it calls `advance_line` and then `current_line`, which do the same.
     pub fn next_line(&mut self) -> Result<&str>
-        ensures { LendsNext B.rest B.given B.faults B.reference self.old result }
+        ensures { LendsNext B.supply self.old result }
     {
         self.start_line::<()>()?;
         Ok(self.line.as_str())
@@ -81,7 +83,7 @@ impl<B: Source> Reader<B> {
 
     /// Tells an answer, an error with its place in the current line.
     fn tell<T>(&self, answer: stream::Result<T>, cheap: bool) -> Result<T>
-        ensures { IsTold cheap answer self.now result }
+        ensures { IsTold cheap answer (reader_row self.now) (reader_passed self.now) (reader_line self.now) result }
     {
         match answer {
             Ok(value) => Ok(value),
@@ -115,7 +117,7 @@ impl<B: Source> Reader<B> {
     }
 
     fn read_new_line<T: FromStream>(&mut self) -> stream::Result<T>
-        ensures { OverNewLine (LineCall B.rest B.given B.faults B.reference) (InLine (ReadCall split_stream T.reading)) self.old result self.new }
+        ensures { OverNewLine (LineCall B.supply) (InLine (ReadCall split_stream T.reading)) self.old result self.new }
     {
         if !self.read_line()? {
             return Err(stream::Error::TooShort(Progress::Nothing));
@@ -124,7 +126,7 @@ impl<B: Source> Reader<B> {
     }
 
     fn read_whole_new_line<T: FromStream>(&mut self) -> stream::Result<T>
-        ensures { OverNewLine (LineCall B.rest B.given B.faults B.reference) (InLine (WholeCall split_stream T.reading)) self.old result self.new }
+        ensures { OverNewLine (LineCall B.supply) (InLine (WholeCall split_stream T.reading)) self.old result self.new }
     {
         if !self.read_line()? {
             return Err(stream::Error::TooShort(Progress::Nothing));

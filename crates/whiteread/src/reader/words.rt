@@ -1,7 +1,7 @@
 // The words of a reader, across its lines.
 ghost use Rattle.whiteread.specs.Stream.{NextCall};
-ghost use Rattle.whiteread.specs.ReaderWords.{reader_stream};
-ghost use Rattle.whiteread.specs.ReaderSteps.{LooksInLine, BeginsIn, word_answer};
+ghost use Rattle.whiteread.specs.ReaderState.ReaderWords.{reader_stream};
+ghost use Rattle.whiteread.specs.Inner.ReaderSteps.{LooksInLine, BeginsIn, word_answer};
 
 use crate::reader::Reader;
 use crate::stream::{Result, StrStream, find_word};
@@ -22,7 +22,7 @@ impl<B: Source> Reader<B> {
 
     /// Passes the next word, and answers where it begins in its line.
     fn step(&mut self) -> Result<Option<usize>>
-        ensures call { NextCall (reader_stream B.rest B.given B.faults B.reference) self.old (word_answer result self.new) self.new }
+        ensures call { NextCall (reader_stream B.supply) self.old (word_answer result self.new) self.new }
         ensures begins { BeginsIn result self.new }
     {
         'lines: loop {
@@ -37,11 +37,11 @@ impl<B: Source> Reader<B> {
 }
 
 impl<B: Source> StrStream for Reader<B> {
-    ghost use Rattle.whiteread.specs.ReaderProofs.{reader_is_stream};
+    ghost use Rattle.whiteread.specs.Inner.ReaderProofs.{reader_is_stream};
 
-    ghost stream = { reader_stream B.rest B.given B.faults B.reference };
+    ghost stream = { reader_stream B.supply };
 
-    ghost is_stream = { reader_is_stream B.rest B.given B.faults B.reference };
+    ghost is_stream = { reader_is_stream B.supply };
 
     fn next(&mut self) -> Result<Option<&str>> {
         let Some(start) = self.step()? else {

@@ -1,7 +1,7 @@
 // Optional values, and lists that go on to the end.
 ghost use Rattle.std.specs.Prelude.{false};
-ghost use Rattle.whiteread.specs.Reads.{optional, all_values};
-ghost use Rattle.whiteread.specs.ReadingProofs.{optional_front, all_front};
+ghost use Rattle.whiteread.specs.Reading.Reads.{optional, all_values};
+ghost use Rattle.whiteread.specs.Inner.ReadingProofs.{optional_front, all_front};
 
 use crate::stream::{Eats, Error, FromStream, Progress, Result, StrStream};
 use std::alloc::Global;

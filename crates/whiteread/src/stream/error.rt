@@ -83,7 +83,7 @@ impl Error {
 }
 
 impl fmt::Display for Error {
-    ghost use Rattle.whiteread.specs.ErrorText.{error_text};
+    ghost use Rattle.whiteread.specs.Located.ErrorText.{error_text};
 
     ghost output = { λ error. Some (error_text error) };
 

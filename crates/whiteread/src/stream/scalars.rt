@@ -2,8 +2,8 @@
 ghost use Rattle.std.specs.Prelude.{◌≡◌, string_bytes, pos, false, []};
 ghost use Rattle.std.specs.Int.{w8, w16, w32, w64};
 ghost use Rattle.whiteread.specs.Reading.{ReadCall};
-ghost use Rattle.whiteread.specs.Reads.{unsigned, signed, boolean, any_word, character, nothing, one_word, parsed};
-ghost use Rattle.whiteread.specs.ReadingProofs.{word_front, nothing_front, eats_word};
+ghost use Rattle.whiteread.specs.Reading.Reads.{unsigned, signed, boolean, any_word, character, nothing, one_word, parsed};
+ghost use Rattle.whiteread.specs.Inner.ReadingProofs.{word_front, nothing_front, eats_word};
 
 use crate::stream::{Eats, Error, FromStream, IsZero, Progress, Result, StrStream};
 use std::alloc::Global;

@@ -1,7 +1,7 @@
 // The words of a text, with their places.
 ghost use Rattle.std.specs.Prelude.{◌≡◌, ◌≤◌, ◌<◌, not, length, take_while, slice_range, IsCharBoundary, Some, None, option_copied};
 ghost use Rattle.whiteread.specs.Words.{is_blank};
-ghost use Rattle.whiteread.specs.Found.{FindsWord, NextWord};
+ghost use Rattle.whiteread.specs.Words.Found.{FindsWord, NextWord};
 
 use crate::stream::{Result, StrStream};
 
@@ -14,8 +14,8 @@ pub struct SplitAsciiWhitespace<'a> {
 }
 
 impl<'a> SplitAsciiWhitespace<'a> {
-    ghost use Rattle.whiteread.specs.Split.{split_text, split_position};
-    ghost use Rattle.whiteread.specs.Found.{FirstBoundary};
+    ghost use Rattle.whiteread.specs.Words.Split.{split_text, split_position};
+    ghost use Rattle.whiteread.specs.Words.Found.{FirstBoundary};
 
     pub fn new(s: &'a str) -> Self
         ensures text { split_text result ≡ s.now }
@@ -96,7 +96,7 @@ fn word_from(text: &str, from: usize) -> (Option<&str>, usize)
 
 impl<'a> Iterator for SplitAsciiWhitespace<'a> {
     ghost use Rattle.std.specs.Iterator.{at_most};
-    ghost use Rattle.whiteread.specs.Split.{words_left, GivesWord};
+    ghost use Rattle.whiteread.specs.Words.Split.{words_left, GivesWord};
 
     type Item = &'a str;
 
@@ -112,8 +112,8 @@ impl<'a> Iterator for SplitAsciiWhitespace<'a> {
 }
 
 impl StrStream for SplitAsciiWhitespace<'_> {
-    ghost use Rattle.whiteread.specs.Split.{words_left, SplitStep, split_stream};
-    ghost use Rattle.whiteread.specs.ReadingProofs.{told_is_stream};
+    ghost use Rattle.whiteread.specs.Words.Split.{words_left, SplitStep, split_stream};
+    ghost use Rattle.whiteread.specs.Inner.ReadingProofs.{told_is_stream};
 
     ghost stream = { split_stream };
 

@@ -1,8 +1,8 @@
 // Tuples, member by member.
 ghost use Rattle.std.specs.Prelude.{false};
 ghost use Rattle.whiteread.specs.Reading.{ReadCall};
-ghost use Rattle.whiteread.specs.Tuples.{around, later, pair, triple, quadruple, quintuple, sextuple};
-ghost use Rattle.whiteread.specs.ReadingProofs.{around_front, pair_front, triple_front, quadruple_front, quintuple_front, sextuple_front, eats_pair, eats_triple, eats_quadruple, eats_quintuple, eats_sextuple};
+ghost use Rattle.whiteread.specs.Reading.Tuples.{around, later, pair, triple, quadruple, quintuple, sextuple};
+ghost use Rattle.whiteread.specs.Inner.ReadingProofs.{around_front, pair_front, triple_front, quadruple_front, quintuple_front, sextuple_front, eats_pair, eats_triple, eats_quadruple, eats_quintuple, eats_sextuple};
 
 use crate::stream::{Eats, Error, FromStream, IsZero, Progress, Result, StrStream};
 use std::alloc::Global;

@@ -1,6 +1,6 @@
 // The words of std's `split_whitespace`.
-ghost use Rattle.whiteread.specs.White.{GivesWhite, white_stream};
-ghost use Rattle.whiteread.specs.WordProofs.{white_is_stream};
+ghost use Rattle.whiteread.specs.Words.White.{GivesWhite, white_stream};
+ghost use Rattle.whiteread.specs.Inner.WordProofs.{white_is_stream};
 
 use crate::stream::{Result, StrStream};
 use std::mem;

@@ -1,5 +1,5 @@
 // A value and then the end of the words.
-ghost use Rattle.whiteread.specs.Whole.{WholeCall};
+ghost use Rattle.whiteread.specs.Reading.Whole.{WholeCall};
 
 use crate::stream::{Error, FromStream, Result, StrStream};
 use std::alloc::Global;

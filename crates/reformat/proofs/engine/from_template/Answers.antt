@@ -13,7 +13,7 @@ use Rattle.reformat.proofs.engine.from_template.Goals as goal
 
 pub returns-in_err-next_line-clause-job : goal.returns-in_err-next_line-clause-job
 returns-in_err-next_line-clause-job g c =
-    let ends : Ends g.row.B.Denot g.row.K.Denot = ends_of g.B.Source.rest g.B.Source.given g.B.Source.faults g.K.Sink.held g.K.Sink.faults in
+    let ends : Ends g.row.B.Denot g.row.K.Denot = ends_of g.B.Source.supply g.K.Sink.held g.K.Sink.faults in
     let why : ReformatError = c.in_err-next_line.field-0.0 in
     let is : c.from_residual.result ≡ Err why = search rules in
     subst (λ (r : Result ℕ ReformatError). Job ends (template_next c.args.source.now) [] (view_of c.args.reader.now) (reader_source c.next_line.new.reader) c.args.output.now c.args.output.now r) (sym is)
@@ -21,25 +21,25 @@ returns-in_err-next_line-clause-job g c =
 
 pub returns-then-not-branch-clause-job : goal.returns-then-not-branch-clause-job
 returns-then-not-branch-clause-job g c =
-    let ends : Ends g.row.B.Denot g.row.K.Denot = ends_of g.B.Source.rest g.B.Source.given g.B.Source.faults g.K.Sink.held g.K.Sink.faults in
-    let ended : Ended g.B.Source.rest g.B.Source.given g.B.Source.faults c.args.reader.now c.next_line.new.reader =
-    subst (λ (found : Bool). NextLine g.B.Source.rest g.B.Source.given g.B.Source.faults 3 c.args.reader.now (Ok found) c.next_line.new.reader) c.if-not-branch.true c.in_ok-next_line.ensures.step in
+    let ends : Ends g.row.B.Denot g.row.K.Denot = ends_of g.B.Source.supply g.K.Sink.held g.K.Sink.faults in
+    let ended : Ended g.B.Source.supply c.args.reader.now c.next_line.new.reader =
+    subst (λ (found : Bool). NextLine g.B.Source.supply 3 c.args.reader.now (Ok found) c.next_line.new.reader) c.if-not-branch.true c.in_ok-next_line.ensures.step in
     header_missing ends (template_next c.args.source.now) c.args.reader.now c.next_line.new.reader c.args.output.now tt ended
 
 pub returns-in_err-line-clause-job : goal.returns-in_err-line-clause-job
 returns-in_err-line-clause-job g c =
-    let ends : Ends g.row.B.Denot g.row.K.Denot = ends_of g.B.Source.rest g.B.Source.given g.B.Source.faults g.K.Sink.held g.K.Sink.faults in
-    let step : Took g.B.Source.rest g.B.Source.given g.B.Source.faults 3 c.args.reader.now c.next_line.new.reader (reader_line c.next_line.new.reader) × IsReady g.B.Source.rest g.B.Source.given (3 + 1) c.next_line.new.reader =
-    subst (λ (found : Bool). NextLine g.B.Source.rest g.B.Source.given g.B.Source.faults 3 c.args.reader.now (Ok found) c.next_line.new.reader) c.if-not-branch.false c.in_ok-next_line.ensures.step in
+    let ends : Ends g.row.B.Denot g.row.K.Denot = ends_of g.B.Source.supply g.K.Sink.held g.K.Sink.faults in
+    let step : Took g.B.Source.supply 3 c.args.reader.now c.next_line.new.reader (reader_line c.next_line.new.reader) × IsReady g.B.Source.supply (3 + 1) c.next_line.new.reader =
+    subst (λ (found : Bool). NextLine g.B.Source.supply 3 c.args.reader.now (Ok found) c.next_line.new.reader) c.if-not-branch.false c.in_ok-next_line.ensures.step in
     let is : c.from_residual-in_err-line.result ≡ Err NoMemory = search rules in
     subst (λ (r : Result ℕ ReformatError). Job ends (template_next c.args.source.now) [] (view_of c.args.reader.now) (reader_source c.next_line.new.reader) c.args.output.now c.args.output.now r) (sym is)
     (header_starved ends (template_next c.args.source.now) 3 c.args.reader.now c.next_line.new.reader c.args.output.now (reader_line c.next_line.new.reader) step.0 c.next_line.new.reader.within)
 
 pub returns-in_err-template-clause-job : goal.returns-in_err-template-clause-job
 returns-in_err-template-clause-job g c =
-    let ends : Ends g.row.B.Denot g.row.K.Denot = ends_of g.B.Source.rest g.B.Source.given g.B.Source.faults g.K.Sink.held g.K.Sink.faults in
-    let step : Took g.B.Source.rest g.B.Source.given g.B.Source.faults 3 c.args.reader.now c.next_line.new.reader (reader_line c.next_line.new.reader) × IsReady g.B.Source.rest g.B.Source.given (3 + 1) c.next_line.new.reader =
-    subst (λ (found : Bool). NextLine g.B.Source.rest g.B.Source.given g.B.Source.faults 3 c.args.reader.now (Ok found) c.next_line.new.reader) c.if-not-branch.false c.in_ok-next_line.ensures.step in
+    let ends : Ends g.row.B.Denot g.row.K.Denot = ends_of g.B.Source.supply g.K.Sink.held g.K.Sink.faults in
+    let step : Took g.B.Source.supply 3 c.args.reader.now c.next_line.new.reader (reader_line c.next_line.new.reader) × IsReady g.B.Source.supply (3 + 1) c.next_line.new.reader =
+    subst (λ (found : Bool). NextLine g.B.Source.supply 3 c.args.reader.now (Ok found) c.next_line.new.reader) c.if-not-branch.false c.in_ok-next_line.ensures.step in
     let same : c.deref.result.now ≡ without_feed (reader_line c.next_line.new.reader) = c.deref.ensures ∙ c.in_ok-line.ensures.ok ∙ c.text_of.ensures ∙ ap without_feed c.current_line.ensures in
     let why : ReformatError = c.in_err-template.field-0.0 in
     let is : c.from_residual-in_err-template.result ≡ Err why = search rules in
@@ -50,9 +50,9 @@ returns-in_err-template-clause-job g c =
 
 pub returns-clause-job : goal.returns-clause-job
 returns-clause-job g c =
-    let ends : Ends g.row.B.Denot g.row.K.Denot = ends_of g.B.Source.rest g.B.Source.given g.B.Source.faults g.K.Sink.held g.K.Sink.faults in
-    let step : Took g.B.Source.rest g.B.Source.given g.B.Source.faults 3 c.args.reader.now c.next_line.new.reader (reader_line c.next_line.new.reader) × IsReady g.B.Source.rest g.B.Source.given (3 + 1) c.next_line.new.reader =
-    subst (λ (found : Bool). NextLine g.B.Source.rest g.B.Source.given g.B.Source.faults 3 c.args.reader.now (Ok found) c.next_line.new.reader) c.if-not-branch.false c.in_ok-next_line.ensures.step in
+    let ends : Ends g.row.B.Denot g.row.K.Denot = ends_of g.B.Source.supply g.K.Sink.held g.K.Sink.faults in
+    let step : Took g.B.Source.supply 3 c.args.reader.now c.next_line.new.reader (reader_line c.next_line.new.reader) × IsReady g.B.Source.supply (3 + 1) c.next_line.new.reader =
+    subst (λ (found : Bool). NextLine g.B.Source.supply 3 c.args.reader.now (Ok found) c.next_line.new.reader) c.if-not-branch.false c.in_ok-next_line.ensures.step in
     let same : c.deref.result.now ≡ without_feed (reader_line c.next_line.new.reader) = c.deref.ensures ∙ c.in_ok-line.ensures.ok ∙ c.text_of.ensures ∙ ap without_feed c.current_line.ensures in
     let read : IsTemplateLine c.deref.result.now c.in_ok-template.template.items = c.in_ok-template.ensures.ok in
     let kept : IsTemplateLine (without_feed (reader_line c.next_line.new.reader)) c.deref-2.result.now =

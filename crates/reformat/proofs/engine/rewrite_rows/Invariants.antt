@@ -8,11 +8,11 @@ use Rattle.reformat.proofs.engine.rewrite_rows.Given as goal
 abbrev pub invariant-rows : goal.invariant-rows
 invariant-rows g l = record {
   goes_on : (last : g.row.B.Denot) (sunk : g.row.K.Denot) (answer : Result ℕ ReformatError)
-      → Job (ends_of g.B.Source.rest g.B.Source.given g.B.Source.faults g.K.Sink.held g.K.Sink.faults) (rows_next l.source l.template (l.lines + 1)) l.batch.items (view_of l.reader) last l.output sunk answer
-      → Job (ends_of g.B.Source.rest g.B.Source.given g.B.Source.faults g.K.Sink.held g.K.Sink.faults) (rows_next l.source l.template 5) [] (view_of l.initial.reader) last l.initial.output sunk answer;
-  ready : IsReady g.B.Source.rest g.B.Source.given l.lines l.reader;
+      → Job (ends_of g.B.Source.supply g.K.Sink.held g.K.Sink.faults) (rows_next l.source l.template (l.lines + 1)) l.batch.items (view_of l.reader) last l.output sunk answer
+      → Job (ends_of g.B.Source.supply g.K.Sink.held g.K.Sink.faults) (rows_next l.source l.template 5) [] (view_of l.initial.reader) last l.initial.output sunk answer;
+  ready : IsReady g.B.Source.supply l.lines l.reader;
   some : 4 ≤ l.lines;
-  same_reference : g.B.Source.reference (reader_source l.reader) ≡ g.B.Source.reference (reader_source l.initial.reader);
+  same_reference : g.B.Source.supply.reference (reader_source l.reader) ≡ g.B.Source.supply.reference (reader_source l.initial.reader);
 }
 
 abbrev pub decreases-rows : goal.decreases-rows

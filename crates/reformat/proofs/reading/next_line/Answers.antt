@@ -9,7 +9,7 @@ pub returns-in-Ok-clause-step : goal.returns-in-Ok-clause-step
 returns-in-Ok-clause-step g c =
     let more : ¬ IsOpen (reader_line c.args.reader.now) =
     λ opened. (let yes : c.is_open.result ≡ true = c.is_open.ensures.1 (subst IsOpen (sym c.current_line.ensures) opened) in let no : c.is_open.result ≡ false = c.if-is_open.false in absurd (cc)) in
-    next_ok g.B.Source.rest g.B.Source.given g.B.Source.faults g.B.Source.reference c.args.before c.args.reader.now c.advance_line.new.self c.in-Ok.found more c.requires c.in-Ok.ensures.line
+    next_ok g.B.Source.supply c.args.before c.args.reader.now c.advance_line.new.self c.in-Ok.found more c.requires c.in-Ok.ensures.line
 
 pub returns-in-Err-clause-step : goal.returns-in-Err-clause-step
 returns-in-Err-clause-step g c =
@@ -17,5 +17,5 @@ returns-in-Err-clause-step g c =
     λ opened. (let yes : c.is_open.result ≡ true = c.is_open.ensures.1 (subst IsOpen (sym c.current_line.ensures) opened) in let no : c.is_open.result ≡ false = c.if-is_open.false in absurd (cc)) in
     let told : IsToldAs c.in-Err.why.error c.saturating_add.result c.refusal_of.result =
     subst (λ (e : Error). IsToldAs e c.saturating_add.result c.refusal_of.result) c.into_inner.ensures c.refusal_of.ensures in
-    next_err g.B.Source.rest g.B.Source.given g.B.Source.faults g.B.Source.reference c.args.before c.saturating_add.result c.args.reader.now c.advance_line.new.self c.in-Err.why.error c.refusal_of.result
+    next_err g.B.Source.supply c.args.before c.saturating_add.result c.args.reader.now c.advance_line.new.self c.in-Err.why.error c.refusal_of.result
     more c.requires g.met.B.Source.given_fits c.saturating_add.ensures c.in-Err.ensures.line told

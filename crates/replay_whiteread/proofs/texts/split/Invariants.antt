@@ -1,5 +1,5 @@
 use Rattle.std.proofs.Common.{length}
-use Rattle.whiteread.specs.Split.{words_left}
+use Rattle.whiteread.specs.Words.Split.{words_left}
 use Rattle.replay_whiteread.proofs.texts.split.Given as goal
 
 abbrev pub decreases-words : goal.decreases-words

@@ -1,5 +1,5 @@
 use Rattle.std.proofs.Common.{◌≡◌, ◌++◌, ◌∷◌, [], ap, length, length-append, arith, rules}
-use Rattle.whiteread.proofs.ReachLemmas.{reached_read, reached_then}
+use Rattle.whiteread.specs.Reading.Reach.{reached_read, reached_then}
 use Rattle.whiteread.proofs.CallLemmas.{each_more, reached_each}
 use Rattle.whiteread.proofs.adapters.LengthedFromStream.read.Goals as goal
 

@@ -1,5 +1,5 @@
 use Rattle.std.proofs.Common.{◌≤◌, ◌-◌, length, vec_len}
-use Rattle.whiteread.specs.Tuples.{later}
+use Rattle.whiteread.specs.Reading.Tuples.{later}
 use Rattle.whiteread.proofs.CallLemmas.{EachCall}
 use Rattle.whiteread.proofs.adapters.LengthedFromStream.read.Given as goal
 

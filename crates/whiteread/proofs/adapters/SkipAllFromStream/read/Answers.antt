@@ -1,5 +1,5 @@
 use Rattle.std.proofs.Common.{rules}
-use Rattle.whiteread.proofs.ReachLemmas.{reached_next}
+use Rattle.whiteread.specs.Reading.Reach.{reached_next}
 use Rattle.whiteread.proofs.adapters.SkipAllFromStream.read.Goals as goal
 
 pub words-preserved : goal.words-preserved

@@ -3,7 +3,7 @@ use Rattle.std.proofs.lemmas.List.Elements.{All-append, All-cons, All-nil}
 use Rattle.std.proofs.lemmas.Bool.{both_ways}
 use Rattle.whiteread.proofs.CallLemmas.{each_more, later_value, to_zero_read, to_zero_refused}
 use Rattle.std.proofs.lemmas.Result.{err_from_is_err_and}
-use Rattle.whiteread.proofs.ReachLemmas.{reached_read}
+use Rattle.whiteread.specs.Reading.Reach.{reached_read}
 use Rattle.whiteread.proofs.adapters.ZeroedFromStream.read.Goals as goal
 
 pub values-preserved : goal.values-preserved

@@ -1,5 +1,5 @@
 use Rattle.std.proofs.Common.{refl}
-use Rattle.whiteread.proofs.ReachLemmas.{reached_read}
+use Rattle.whiteread.specs.Reading.Reach.{reached_read}
 use Rattle.whiteread.proofs.InLineLemmas.{Begins, begins, in_line, passed_boundary}
 use Rattle.whiteread.proofs.reader.Reader.read_in_line.Goals as goal
 

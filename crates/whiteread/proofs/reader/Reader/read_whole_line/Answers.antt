@@ -1,6 +1,6 @@
 use Rattle.std.proofs.Common.{refl}
-use Rattle.whiteread.specs.Whole.{WholeCall}
-use Rattle.whiteread.specs.Split.{split_stream}
+use Rattle.whiteread.specs.Reading.Whole.{WholeCall}
+use Rattle.whiteread.specs.Words.Split.{split_stream}
 use Rattle.whiteread.proofs.InLineLemmas.{reached_whole}
 use Rattle.whiteread.proofs.InLineLemmas.{Begins, begins, in_line, passed_boundary}
 use Rattle.whiteread.proofs.reader.Reader.read_whole_line.Goals as goal

@@ -2,7 +2,7 @@
 use Rattle.std.proofs.Common.{◌≡◌, ◌≤◌, ◌∙◌, sym, ap, length, rules}
 use Rattle.std.specs.Prelude.{min}
 use Rattle.std.specs.Fmt.Cut.{floor_char_boundary}
-use Rattle.whiteread.specs.Rendered.{last_of}
+use Rattle.whiteread.specs.Located.Rendered.{last_of}
 use Rattle.whiteread.proofs.RenderedLemmas.{floor_is, last_of-le}
 use Rattle.whiteread.proofs.reader.error.mark_at.Goals as goal
 

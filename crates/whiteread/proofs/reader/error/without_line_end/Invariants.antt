@@ -2,7 +2,7 @@
 use Rattle.std.proofs.Common.{◌≡◌, ◌+◌, ◌≤◌, length, take}
 use Rattle.std.specs.List.{suffix_len}
 use Rattle.std.specs.Str.{IsCharBoundary}
-use Rattle.whiteread.specs.Rendered.{is_line_end}
+use Rattle.whiteread.specs.Located.Rendered.{is_line_end}
 use Rattle.whiteread.proofs.reader.error.without_line_end.Given as goal
 
 abbrev pub invariant-ends : goal.invariant-ends

@@ -1,7 +1,7 @@
 use Rattle.std.proofs.Common.{◌≡◌, ◌-◌, ◌==◌, Some, None, drop, length, take, arith, take_all, length-drop, sym, subst}
 use Rattle.std.specs.List.{position}
 use Rattle.whiteread.specs.Lines.{HasNoFeed, line_feed}
-use Rattle.whiteread.specs.Pending.{pending_bytes}
+use Rattle.whiteread.specs.ReaderState.Pending.{pending_bytes}
 use Rattle.whiteread.proofs.LineLemmas.{no_feed_whole, no_feed_before, whole_at, searched_on}
 use Rattle.whiteread.proofs.reader.pending.Pending.line_len.Goals as goal
 

@@ -31,7 +31,7 @@ returns-in-Ok-clause-bytes g c =
     let grown : c.truncate.new.self.items ≡ old.bytes.items ++ got =
     read_in _ _ c.deref_mut.result.now _ _ _ _ c.in-Some.room c.len-len.result _ c.in-Ok.count c.resize.new.self.len (omega (arith, c.len-len.ensures, old.bytes.ok.0)) (omega (arith, c.in-Some.ensures)) (c.deref_mut.ensures.value ∙ c.resize.ensures.items) c.read.auto.buf (omega (arith, c.deref_mut.ensures.len, c.resize.new.self.ok.0)) c.in-Ok.ensures.count c.truncate.ensures.items in (
       got,
-      record { bytes = c.in-Ok.ensures.bytes; count = c.in-Ok.ensures.given ∙ ap (λ n. g.S.Source.given c.args.source.now + n) (sym count) },
+      record { bytes = c.in-Ok.ensures.bytes; count = c.in-Ok.ensures.given ∙ ap (λ n. g.S.Source.supply.given c.args.source.now + n) (sym count) },
       ap (drop old.start) grown ∙ drop-append-le old.start old.bytes.items got (omega (arith, old.within)) ∙ ap (λ l. l ++ got) c.shift.ensures.bytes,
       omega (arith, c.in-Ok.ensures.count, count, given, read_fits _ c.len-len.result c.resize.new.self.len c.in-Some.room old.bytes.len c.args.ask (length c.read.new.buf) c.resize.ensures.len (omega (arith, c.in-Some.ensures)) (sym c.len-len.ensures) given),
       sym count,

@@ -1,5 +1,5 @@
 use Rattle.std.proofs.lemmas.Result.{err_from_is_err_and}
-use Rattle.whiteread.specs.Tuples.{later}
+use Rattle.whiteread.specs.Reading.Tuples.{later}
 use Rattle.whiteread.proofs.CallLemmas.{then_read, then_refused, then_refused_first}
 use Rattle.whiteread.proofs.stream.tuples.Tuple5FromStream.read.Goals as goal
 

@@ -1,0 +1,60 @@
+// When `strfmt_map` calls its closure.
+use std::alloc::{AllocError, Global};
+use std::test::Fail;
+use strfmt::{FmtError, Formatter, Result, strfmt_map};
+
+/// The keys of the patterns at which the closure was called, one after the other; it refuses the pattern of the key `r`.
+fn keys_called(
+    alloc: Global,
+    template: &str,
+) -> std::result::Result<(String, Result<String>), AllocError> {
+    let mut keys = String::new(alloc);
+    let answer = strfmt_map(
+        alloc,
+        template,
+        |f: &mut Formatter<'_>| -> Result<()> {
+            keys.push_str(f.key).map_err(|_| FmtError::NoMemory)?;
+            if f.key == "r" {
+                return f.u8(1).and(f.str("refused"));
+            }
+            f.skip()
+        },
+    );
+    Ok((keys, answer))
+}
+
+#[test]
+fn patterns_are_filled_by_skip(rt: HostRuntime) -> std::result::Result<(), Fail> {
+    let alloc = rt.alloc();
+    for (template, want) in [
+        ("a{x:<5}b", "a{x:<5}b"),
+        ("{x}{{{y:>3}", "{x}{{y:>3}"),
+        ("no pattern", "no pattern"),
+    ] {
+        let printed = strfmt_map(alloc, template, |f: &mut Formatter<'_>| f.skip())?;
+        assert!(rt; printed.as_str() == want, "{template}");
+    }
+    Ok(())
+}
+
+#[test]
+fn once_a_pattern_up_to_the_first_fault(rt: HostRuntime) -> std::result::Result<(), Fail> {
+    let alloc = rt.alloc();
+    for (template, keys, succeeds) in [
+        ("{a}{b}", "ab", true),
+        ("{a}-{b}{{{a}", "aba", true),
+        ("{a}{b", "a", false),
+        ("{a}}{b}", "a", false),
+        ("{a{b}", "", false),
+        ("{a:k}{b}", "", false),
+        ("{r:x}{b}", "r", false),
+        ("{a}{r:x}{b}", "ar", false),
+        ("}{a}", "", false),
+        ("plain", "", true),
+    ] {
+        let (called, answer) = keys_called(alloc, template)?;
+        assert!(rt; called.as_str() == keys, "{template}");
+        assert!(rt; answer.is_ok() == succeeds, "{template}");
+    }
+    Ok(())
+}

@@ -1,0 +1,15 @@
+//! `whiteread` as a stranger uses it: words, values, lines, errors with their places, and the laws of readers.
+#![tactic(auto)]
+
+#[cfg(test)]
+mod errors;
+#[cfg(test)]
+mod laws;
+#[cfg(test)]
+mod lines;
+#[cfg(test)]
+mod reads;
+#[cfg(test)]
+mod texts;
+#[cfg(test)]
+mod values;
