@@ -1,7 +1,7 @@
 //! The calls of scan_fmt that lines name.
 #![tactic(auto)]
 
-use replay::{Fault, undo_texts};
+use replay::{Fault, place_of, undo_texts};
 use scan_fmt::parse::{ReadAs, ReadHex, ReadToken, Tokens, scan};
 use std::alloc::Global;
 use std::fmt::Display;
@@ -55,41 +55,52 @@ fn read_at(alloc: Global, tokens: &mut Tokens, name: &str) -> Result<String, Fau
     if let Some(name) = name.strip_prefix("hex ") {
         return read_hex_at(alloc, tokens, name);
     }
-    match name.as_bytes() {
-        b"u8" => read::<u8>(alloc, tokens),
-        b"u16" => read::<u16>(alloc, tokens),
-        b"u32" => read::<u32>(alloc, tokens),
-        b"u64" => read::<u64>(alloc, tokens),
-        b"u128" => read::<u128>(alloc, tokens),
-        b"usize" => read::<usize>(alloc, tokens),
-        b"i8" => read::<i8>(alloc, tokens),
-        b"i16" => read::<i16>(alloc, tokens),
-        b"i32" => read::<i32>(alloc, tokens),
-        b"i64" => read::<i64>(alloc, tokens),
-        b"i128" => read::<i128>(alloc, tokens),
-        b"isize" => read::<isize>(alloc, tokens),
-        b"bool" => read::<bool>(alloc, tokens),
-        b"char" => read::<char>(alloc, tokens),
-        b"String" => read::<String>(alloc, tokens),
+    match place_of(
+        name,
+        &[
+            "u8", "u16", "u32", "u64", "u128", "usize", "i8", "i16", "i32", "i64", "i128", "isize",
+            "bool", "char", "String",
+        ],
+    ) {
+        Some(0) => read::<u8>(alloc, tokens),
+        Some(1) => read::<u16>(alloc, tokens),
+        Some(2) => read::<u32>(alloc, tokens),
+        Some(3) => read::<u64>(alloc, tokens),
+        Some(4) => read::<u128>(alloc, tokens),
+        Some(5) => read::<usize>(alloc, tokens),
+        Some(6) => read::<i8>(alloc, tokens),
+        Some(7) => read::<i16>(alloc, tokens),
+        Some(8) => read::<i32>(alloc, tokens),
+        Some(9) => read::<i64>(alloc, tokens),
+        Some(10) => read::<i128>(alloc, tokens),
+        Some(11) => read::<isize>(alloc, tokens),
+        Some(12) => read::<bool>(alloc, tokens),
+        Some(13) => read::<char>(alloc, tokens),
+        Some(14) => read::<String>(alloc, tokens),
         _ => Err(Fault::NoSuchType),
     }
 }
 
 /// Reads the next token in base 16 at the named type.
 fn read_hex_at(alloc: Global, tokens: &mut Tokens, name: &str) -> Result<String, Fault> {
-    match name.as_bytes() {
-        b"u8" => read_hex::<u8>(alloc, tokens),
-        b"u16" => read_hex::<u16>(alloc, tokens),
-        b"u32" => read_hex::<u32>(alloc, tokens),
-        b"u64" => read_hex::<u64>(alloc, tokens),
-        b"u128" => read_hex::<u128>(alloc, tokens),
-        b"usize" => read_hex::<usize>(alloc, tokens),
-        b"i8" => read_hex::<i8>(alloc, tokens),
-        b"i16" => read_hex::<i16>(alloc, tokens),
-        b"i32" => read_hex::<i32>(alloc, tokens),
-        b"i64" => read_hex::<i64>(alloc, tokens),
-        b"i128" => read_hex::<i128>(alloc, tokens),
-        b"isize" => read_hex::<isize>(alloc, tokens),
+    match place_of(
+        name,
+        &[
+            "u8", "u16", "u32", "u64", "u128", "usize", "i8", "i16", "i32", "i64", "i128", "isize",
+        ],
+    ) {
+        Some(0) => read_hex::<u8>(alloc, tokens),
+        Some(1) => read_hex::<u16>(alloc, tokens),
+        Some(2) => read_hex::<u32>(alloc, tokens),
+        Some(3) => read_hex::<u64>(alloc, tokens),
+        Some(4) => read_hex::<u128>(alloc, tokens),
+        Some(5) => read_hex::<usize>(alloc, tokens),
+        Some(6) => read_hex::<i8>(alloc, tokens),
+        Some(7) => read_hex::<i16>(alloc, tokens),
+        Some(8) => read_hex::<i32>(alloc, tokens),
+        Some(9) => read_hex::<i64>(alloc, tokens),
+        Some(10) => read_hex::<i128>(alloc, tokens),
+        Some(11) => read_hex::<isize>(alloc, tokens),
         _ => Err(Fault::NoSuchType),
     }
 }

@@ -1,7 +1,7 @@
 //! The calls of sprintf that lines name.
 #![tactic(auto)]
 
-use replay::{Fault, Value, read_value, read_values, undo_texts};
+use replay::{Fault, Value, place_of, read_value, read_values, undo_texts};
 use sprintf::parser::{FormatElement, parse_format_string};
 use sprintf::{Arg, ConversionSpecifier, ConversionType, NumericParam, PrintfError, vsprintf};
 use std::alloc::Global;
@@ -32,17 +32,17 @@ pub fn answer(alloc: Global, call: &str, inputs: &[&str]) -> Result<Vec<String>,
 /// The argument that holds a value.
 fn arg_of(value: &Value) -> Result<Arg<'_>, Fault> {
     match value {
-        Value::U8(n) => Ok(Arg::from(*n)),
-        Value::U16(n) => Ok(Arg::from(*n)),
-        Value::U32(n) => Ok(Arg::from(*n)),
-        Value::U64(n) => Ok(Arg::from(*n)),
-        Value::Usize(n) => Ok(Arg::from(*n)),
-        Value::I8(n) => Ok(Arg::from(*n)),
-        Value::I16(n) => Ok(Arg::from(*n)),
-        Value::I32(n) => Ok(Arg::from(*n)),
-        Value::I64(n) => Ok(Arg::from(*n)),
-        Value::Isize(n) => Ok(Arg::from(*n)),
-        Value::Char(c) => Ok(Arg::from(*c)),
+        Value::U8(n) => Ok(Arg::U8(*n)),
+        Value::U16(n) => Ok(Arg::U16(*n)),
+        Value::U32(n) => Ok(Arg::U32(*n)),
+        Value::U64(n) => Ok(Arg::U64(*n)),
+        Value::Usize(n) => Ok(Arg::Usize(*n)),
+        Value::I8(n) => Ok(Arg::I8(*n)),
+        Value::I16(n) => Ok(Arg::I16(*n)),
+        Value::I32(n) => Ok(Arg::I32(*n)),
+        Value::I64(n) => Ok(Arg::I64(*n)),
+        Value::Isize(n) => Ok(Arg::Isize(*n)),
+        Value::Char(c) => Ok(Arg::Char(*c)),
         Value::Str(text) => Ok(Arg::from(text.as_str())),
         Value::String(text) => Ok(Arg::from(text)),
         Value::U128(_) | Value::I128(_) | Value::Bool(_) => Err(Fault::BadInput),
@@ -156,21 +156,37 @@ fn read_spec(flags: &str, conversion: &str) -> Result<ConversionSpecifier, Fault
     })
 }
 
+const CONVERSIONS: [&str; 13] = [
+    "DecInt",
+    "OctInt",
+    "HexIntLower",
+    "HexIntUpper",
+    "SciFloatLower",
+    "SciFloatUpper",
+    "DecFloatLower",
+    "DecFloatUpper",
+    "CompactFloatLower",
+    "CompactFloatUpper",
+    "Char",
+    "String",
+    "PercentSign",
+];
+
 fn read_conversion(name: &str) -> Result<ConversionType, Fault> {
-    match name.as_bytes() {
-        b"DecInt" => Ok(ConversionType::DecInt),
-        b"OctInt" => Ok(ConversionType::OctInt),
-        b"HexIntLower" => Ok(ConversionType::HexIntLower),
-        b"HexIntUpper" => Ok(ConversionType::HexIntUpper),
-        b"SciFloatLower" => Ok(ConversionType::SciFloatLower),
-        b"SciFloatUpper" => Ok(ConversionType::SciFloatUpper),
-        b"DecFloatLower" => Ok(ConversionType::DecFloatLower),
-        b"DecFloatUpper" => Ok(ConversionType::DecFloatUpper),
-        b"CompactFloatLower" => Ok(ConversionType::CompactFloatLower),
-        b"CompactFloatUpper" => Ok(ConversionType::CompactFloatUpper),
-        b"Char" => Ok(ConversionType::Char),
-        b"String" => Ok(ConversionType::String),
-        b"PercentSign" => Ok(ConversionType::PercentSign),
+    match place_of(name, &CONVERSIONS) {
+        Some(0) => Ok(ConversionType::DecInt),
+        Some(1) => Ok(ConversionType::OctInt),
+        Some(2) => Ok(ConversionType::HexIntLower),
+        Some(3) => Ok(ConversionType::HexIntUpper),
+        Some(4) => Ok(ConversionType::SciFloatLower),
+        Some(5) => Ok(ConversionType::SciFloatUpper),
+        Some(6) => Ok(ConversionType::DecFloatLower),
+        Some(7) => Ok(ConversionType::DecFloatUpper),
+        Some(8) => Ok(ConversionType::CompactFloatLower),
+        Some(9) => Ok(ConversionType::CompactFloatUpper),
+        Some(10) => Ok(ConversionType::Char),
+        Some(11) => Ok(ConversionType::String),
+        Some(12) => Ok(ConversionType::PercentSign),
         _ => Err(Fault::BadInput),
     }
 }

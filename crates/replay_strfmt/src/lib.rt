@@ -3,7 +3,7 @@
 
 mod shown;
 
-use replay::{Fault, read_value, undo_texts};
+use replay::{Fault, place_of, read_value, undo_texts};
 use shown::Shown;
 use std::alloc::Global;
 use std::collections::HashMap;
@@ -64,20 +64,26 @@ fn fill(
     template: &str,
     pairs: &[String],
 ) -> Result<Vec<String>, Fault> {
-    match key_type.as_bytes() {
-        b"String" => fill_by::<String>(alloc, template, pairs),
-        b"u8" => fill_by::<u8>(alloc, template, pairs),
-        b"u16" => fill_by::<u16>(alloc, template, pairs),
-        b"u32" => fill_by::<u32>(alloc, template, pairs),
-        b"u64" => fill_by::<u64>(alloc, template, pairs),
-        b"u128" => fill_by::<u128>(alloc, template, pairs),
-        b"usize" => fill_by::<usize>(alloc, template, pairs),
-        b"i8" => fill_by::<i8>(alloc, template, pairs),
-        b"i16" => fill_by::<i16>(alloc, template, pairs),
-        b"i32" => fill_by::<i32>(alloc, template, pairs),
-        b"i64" => fill_by::<i64>(alloc, template, pairs),
-        b"i128" => fill_by::<i128>(alloc, template, pairs),
-        b"isize" => fill_by::<isize>(alloc, template, pairs),
+    match place_of(
+        key_type,
+        &[
+            "String", "u8", "u16", "u32", "u64", "u128", "usize", "i8", "i16", "i32", "i64",
+            "i128", "isize",
+        ],
+    ) {
+        Some(0) => fill_by::<String>(alloc, template, pairs),
+        Some(1) => fill_by::<u8>(alloc, template, pairs),
+        Some(2) => fill_by::<u16>(alloc, template, pairs),
+        Some(3) => fill_by::<u32>(alloc, template, pairs),
+        Some(4) => fill_by::<u64>(alloc, template, pairs),
+        Some(5) => fill_by::<u128>(alloc, template, pairs),
+        Some(6) => fill_by::<usize>(alloc, template, pairs),
+        Some(7) => fill_by::<i8>(alloc, template, pairs),
+        Some(8) => fill_by::<i16>(alloc, template, pairs),
+        Some(9) => fill_by::<i32>(alloc, template, pairs),
+        Some(10) => fill_by::<i64>(alloc, template, pairs),
+        Some(11) => fill_by::<i128>(alloc, template, pairs),
+        Some(12) => fill_by::<isize>(alloc, template, pairs),
         _ => Err(Fault::NoSuchType),
     }
 }
@@ -134,6 +140,16 @@ fn format(alloc: Global, pattern: &str, operations: &[String]) -> Result<Vec<Str
     Ok(fields)
 }
 
+/// The operations on a formatter; any other field is a value that is displayed.
+const OPERATIONS: [&str; 6] = [
+    "write_str",
+    "str",
+    "str_unchecked",
+    "skip",
+    "set_default_align",
+    "set_precision",
+];
+
 /// Does one operation.
 fn operate(
     alloc: Global,
@@ -141,16 +157,16 @@ fn operate(
     operation: &str,
 ) -> Result<strfmt::Result<()>, Fault> {
     let (name, text) = operation.split_once(':').unwrap_or((operation, ""));
-    match name.as_bytes() {
-        b"write_str" => Ok(formatter.write_str(text)),
-        b"str" => Ok(formatter.str(text)),
-        b"str_unchecked" => Ok(formatter.str_unchecked(text)),
-        b"skip" => Ok(formatter.skip()),
-        b"set_default_align" => {
+    match place_of(name, &OPERATIONS) {
+        Some(0) => Ok(formatter.write_str(text)),
+        Some(1) => Ok(formatter.str(text)),
+        Some(2) => Ok(formatter.str_unchecked(text)),
+        Some(3) => Ok(formatter.skip()),
+        Some(4) => {
             formatter.set_default_align(read_alignment(text)?);
             Ok(Ok(()))
         }
-        b"set_precision" => {
+        Some(5) => {
             formatter.set_precision(read_precision(text)?);
             Ok(Ok(()))
         }
@@ -159,12 +175,12 @@ fn operate(
 }
 
 fn read_alignment(name: &str) -> Result<Alignment, Fault> {
-    match name.as_bytes() {
-        b"Unspecified" => Ok(Alignment::Unspecified),
-        b"Left" => Ok(Alignment::Left),
-        b"Center" => Ok(Alignment::Center),
-        b"Right" => Ok(Alignment::Right),
-        b"Equal" => Ok(Alignment::Equal),
+    match place_of(name, &["Unspecified", "Left", "Center", "Right", "Equal"]) {
+        Some(0) => Ok(Alignment::Unspecified),
+        Some(1) => Ok(Alignment::Left),
+        Some(2) => Ok(Alignment::Center),
+        Some(3) => Ok(Alignment::Right),
+        Some(4) => Ok(Alignment::Equal),
         _ => Err(Fault::BadInput),
     }
 }

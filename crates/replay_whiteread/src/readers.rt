@@ -3,7 +3,7 @@
 use crate::texts::{read, shown};
 use crate::types::{TypedCall, call_at};
 use edge_io::MemSource;
-use replay::{Fault, undo};
+use replay::{Fault, place_of, undo};
 use std::alloc::Global;
 use std::fmt::Debug;
 use whiteread::reader::{Error, Reader};
@@ -22,6 +22,41 @@ enum Style {
     Parts,
     /// `debug:` and the debug text.
     Debug,
+}
+
+/// A call that reads a value.
+#[derive(Clone, Copy)]
+enum Operation {
+    Continue,
+    Parse,
+    Finish,
+    ContinueLine,
+    FinishLine,
+    StartLine,
+    Line,
+}
+
+const OPERATIONS: [&str; 7] = [
+    "continue_",
+    "parse",
+    "finish",
+    "continue_line",
+    "finish_line",
+    "start_line",
+    "line",
+];
+
+fn operation_named(name: &str) -> Result<Operation, Fault> {
+    match place_of(name, &OPERATIONS) {
+        Some(0) => Ok(Operation::Continue),
+        Some(1) => Ok(Operation::Parse),
+        Some(2) => Ok(Operation::Finish),
+        Some(3) => Ok(Operation::ContinueLine),
+        Some(4) => Ok(Operation::FinishLine),
+        Some(5) => Ok(Operation::StartLine),
+        Some(6) => Ok(Operation::Line),
+        _ => Err(Fault::NoSuchCall),
+    }
 }
 
 /// The answer of a call on a reader. The inputs still have their escapes, since the text need not be UTF-8.
@@ -75,7 +110,7 @@ fn operate(
             Some((name, type_name)) => {
                 let mut step = Step {
                     reader: &mut reader,
-                    name,
+                    operation: operation_named(name)?,
                     style,
                 };
                 call_at(alloc, type_name, &mut step)?
@@ -102,21 +137,20 @@ fn next_line(alloc: Global, reader: &mut Reader<MemSource>, style: Style) -> Res
 #[derive(Drop)]
 struct Step<'r> {
     reader: &'r mut Reader<MemSource>,
-    name: &'r str,
+    operation: Operation,
     style: Style,
 }
 
 impl TypedCall for Step<'_> {
     fn at<T: FromStream + Debug>(&mut self, alloc: Global) -> Result<Vec<String>, Fault> {
-        let outcome = match self.name.as_bytes() {
-            b"continue_" => self.reader.continue_::<T>(),
-            b"parse" => self.reader.parse::<T>(),
-            b"finish" => self.reader.finish::<T>(),
-            b"continue_line" => self.reader.continue_line::<T>(),
-            b"finish_line" => self.reader.finish_line::<T>(),
-            b"start_line" => self.reader.start_line::<T>(),
-            b"line" => self.reader.line::<T>(),
-            _ => return Err(Fault::NoSuchCall),
+        let outcome = match self.operation {
+            Operation::Continue => self.reader.continue_::<T>(),
+            Operation::Parse => self.reader.parse::<T>(),
+            Operation::Finish => self.reader.finish::<T>(),
+            Operation::ContinueLine => self.reader.continue_line::<T>(),
+            Operation::FinishLine => self.reader.finish_line::<T>(),
+            Operation::StartLine => self.reader.start_line::<T>(),
+            Operation::Line => self.reader.line::<T>(),
         };
         let field = match outcome {
             Ok(value) => shown(alloc, &value)?,

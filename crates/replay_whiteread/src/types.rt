@@ -1,6 +1,6 @@
 // The types at which lines read words, by their names.
 
-use replay::Fault;
+use replay::{Fault, place_of};
 use std::alloc::Global;
 use std::fmt::Debug;
 use whiteread::FromStream;
@@ -31,15 +31,13 @@ pub(crate) fn call_at<C: TypedCall>(
     }
 }
 
-/// Does the reading at the one of these types that has the name.
+/// Does the reading at the type that stands beside the name.
 macro_rules! call_at_one_of {
-    ($alloc:expr, $name:expr, $call:expr; $($text:literal => $kind:ty,)*) => {
-        $(
-            if $name == $text {
-                return $call.at::<$kind>($alloc);
-            }
-        )*
-        Err(Fault::NoSuchType)
+    ($alloc:expr, $name:expr, $call:expr; $($number:literal $text:literal => $kind:ty,)*) => {
+        match place_of($name, &[$($text),*]) {
+            $(Some($number) => $call.at::<$kind>($alloc),)*
+            _ => Err(Fault::NoSuchType),
+        }
     };
 }
 
@@ -51,21 +49,21 @@ fn call_at_scalar<C: TypedCall>(
 ) -> Result<Vec<String>, Fault> {
     call_at_one_of! {
         alloc, name, call;
-        "u8" => u8,
-        "u16" => u16,
-        "u32" => u32,
-        "u64" => u64,
-        "usize" => usize,
-        "i8" => i8,
-        "i16" => i16,
-        "i32" => i32,
-        "i64" => i64,
-        "isize" => isize,
-        "bool" => bool,
-        "char" => char,
-        "String" => String,
-        "Skip" => Skip,
-        "SkipAll" => SkipAll,
+        0 "u8" => u8,
+        1 "u16" => u16,
+        2 "u32" => u32,
+        3 "u64" => u64,
+        4 "usize" => usize,
+        5 "i8" => i8,
+        6 "i16" => i16,
+        7 "i32" => i32,
+        8 "i64" => i64,
+        9 "isize" => isize,
+        10 "bool" => bool,
+        11 "char" => char,
+        12 "String" => String,
+        13 "Skip" => Skip,
+        14 "SkipAll" => SkipAll,
     }
 }
 
@@ -77,15 +75,15 @@ fn call_at_unsigned_first<C: TypedCall>(
 ) -> Result<Vec<String>, Fault> {
     call_at_one_of! {
         alloc, name, call;
-        "(u8,u8)" => (u8, u8),
-        "(u8,u16)" => (u8, u16),
-        "(u8,u8,u8)" => (u8, u8, u8),
-        "(u8,String)" => (u8, String),
-        "(u8,Vec<u8>)" => (u8, Vec<u8>),
-        "(u8,u8,u8,u8)" => (u8, u8, u8, u8),
-        "(u16,u64,usize)" => (u16, u64, usize),
-        "(u8,u8,u8,u8,u8)" => (u8, u8, u8, u8, u8),
-        "(u8,u8,u8,u8,u8,u8)" => (u8, u8, u8, u8, u8, u8),
+        0 "(u8,u8)" => (u8, u8),
+        1 "(u8,u16)" => (u8, u16),
+        2 "(u8,u8,u8)" => (u8, u8, u8),
+        3 "(u8,String)" => (u8, String),
+        4 "(u8,Vec<u8>)" => (u8, Vec<u8>),
+        5 "(u8,u8,u8,u8)" => (u8, u8, u8, u8),
+        6 "(u16,u64,usize)" => (u16, u64, usize),
+        7 "(u8,u8,u8,u8,u8)" => (u8, u8, u8, u8, u8),
+        8 "(u8,u8,u8,u8,u8,u8)" => (u8, u8, u8, u8, u8, u8),
     }
 }
 
@@ -97,13 +95,13 @@ fn call_at_signed_first<C: TypedCall>(
 ) -> Result<Vec<String>, Fault> {
     call_at_one_of! {
         alloc, name, call;
-        "(i32,)" => (i32,),
-        "(i32,())" => (i32, ()),
-        "(i32,i32)" => (i32, i32),
-        "(i32,Skip)" => (i32, Skip),
-        "(i32,SkipAll)" => (i32, SkipAll),
-        "(i8,i16,isize)" => (i8, i16, isize),
-        "(i32,String,char)" => (i32, String, char),
+        0 "(i32,)" => (i32,),
+        1 "(i32,())" => (i32, ()),
+        2 "(i32,i32)" => (i32, i32),
+        3 "(i32,Skip)" => (i32, Skip),
+        4 "(i32,SkipAll)" => (i32, SkipAll),
+        5 "(i8,i16,isize)" => (i8, i16, isize),
+        6 "(i32,String,char)" => (i32, String, char),
     }
 }
 
@@ -115,23 +113,23 @@ fn call_at_tuple<C: TypedCall>(
 ) -> Result<Vec<String>, Fault> {
     call_at_one_of! {
         alloc, name, call;
-        "((),i32)" => ((), i32),
-        "(Skip,i32)" => (Skip, i32),
-        "(bool,i32)" => (bool, i32),
-        "((),(),i32)" => ((), (), i32),
-        "(String,u8)" => (String, u8),
-        "(char,char)" => (char, char),
-        "(Vec<u8>,u8)" => (Vec<u8>, u8),
-        "(Option<u8>,u8)" => (Option<u8>, u8),
-        "(Skip,i32,Skip)" => (Skip, i32, Skip),
-        "(Lengthed<u8>,u8)" => (Lengthed<u8>, u8),
-        "(String,u8,SkipAll)" => (String, u8, SkipAll),
-        "(Zeroed<u8>,String)" => (Zeroed<u8>, String),
-        "((i32,i32),(i32,i32))" => ((i32, i32), (i32, i32)),
-        "((u8,u8),Option<i32>)" => ((u8, u8), Option<i32>),
-        "((i32,i32),Option<i32>)" => ((i32, i32), Option<i32>),
-        "(Option<u8>,Option<u8>)" => (Option<u8>, Option<u8>),
-        "(WithCheapError<i32>,i32)" => (WithCheapError<i32>, i32),
+        0 "((),i32)" => ((), i32),
+        1 "(Skip,i32)" => (Skip, i32),
+        2 "(bool,i32)" => (bool, i32),
+        3 "((),(),i32)" => ((), (), i32),
+        4 "(String,u8)" => (String, u8),
+        5 "(char,char)" => (char, char),
+        6 "(Vec<u8>,u8)" => (Vec<u8>, u8),
+        7 "(Option<u8>,u8)" => (Option<u8>, u8),
+        8 "(Skip,i32,Skip)" => (Skip, i32, Skip),
+        9 "(Lengthed<u8>,u8)" => (Lengthed<u8>, u8),
+        10 "(String,u8,SkipAll)" => (String, u8, SkipAll),
+        11 "(Zeroed<u8>,String)" => (Zeroed<u8>, String),
+        12 "((i32,i32),(i32,i32))" => ((i32, i32), (i32, i32)),
+        13 "((u8,u8),Option<i32>)" => ((u8, u8), Option<i32>),
+        14 "((i32,i32),Option<i32>)" => ((i32, i32), Option<i32>),
+        15 "(Option<u8>,Option<u8>)" => (Option<u8>, Option<u8>),
+        16 "(WithCheapError<i32>,i32)" => (WithCheapError<i32>, i32),
     }
 }
 
@@ -143,17 +141,17 @@ fn call_at_option<C: TypedCall>(
 ) -> Result<Vec<String>, Fault> {
     call_at_one_of! {
         alloc, name, call;
-        "Option<()>" => Option<()>,
-        "Option<u8>" => Option<u8>,
-        "Option<i32>" => Option<i32>,
-        "Option<char>" => Option<char>,
-        "Option<String>" => Option<String>,
-        "Option<(u8,u8)>" => Option<(u8, u8)>,
-        "Option<Vec<u8>>" => Option<Vec<u8>>,
-        "Option<Option<u8>>" => Option<Option<u8>>,
-        "Option<Zeroed<u8>>" => Option<Zeroed<u8>>,
-        "Option<Lengthed<u8>>" => Option<Lengthed<u8>>,
-        "Option<WithCheapError<i32>>" => Option<WithCheapError<i32>>,
+        0 "Option<()>" => Option<()>,
+        1 "Option<u8>" => Option<u8>,
+        2 "Option<i32>" => Option<i32>,
+        3 "Option<char>" => Option<char>,
+        4 "Option<String>" => Option<String>,
+        5 "Option<(u8,u8)>" => Option<(u8, u8)>,
+        6 "Option<Vec<u8>>" => Option<Vec<u8>>,
+        7 "Option<Option<u8>>" => Option<Option<u8>>,
+        8 "Option<Zeroed<u8>>" => Option<Zeroed<u8>>,
+        9 "Option<Lengthed<u8>>" => Option<Lengthed<u8>>,
+        10 "Option<WithCheapError<i32>>" => Option<WithCheapError<i32>>,
     }
 }
 
@@ -165,15 +163,15 @@ fn call_at_vec<C: TypedCall>(
 ) -> Result<Vec<String>, Fault> {
     call_at_one_of! {
         alloc, name, call;
-        "Vec<u8>" => Vec<u8>,
-        "Vec<i32>" => Vec<i32>,
-        "Vec<bool>" => Vec<bool>,
-        "Vec<char>" => Vec<char>,
-        "Vec<String>" => Vec<String>,
-        "Vec<(u8,u8)>" => Vec<(u8, u8)>,
-        "Vec<(char,i32)>" => Vec<(char, i32)>,
-        "Vec<Zeroed<u8>>" => Vec<Zeroed<u8>>,
-        "Vec<Lengthed<u8>>" => Vec<Lengthed<u8>>,
+        0 "Vec<u8>" => Vec<u8>,
+        1 "Vec<i32>" => Vec<i32>,
+        2 "Vec<bool>" => Vec<bool>,
+        3 "Vec<char>" => Vec<char>,
+        4 "Vec<String>" => Vec<String>,
+        5 "Vec<(u8,u8)>" => Vec<(u8, u8)>,
+        6 "Vec<(char,i32)>" => Vec<(char, i32)>,
+        7 "Vec<Zeroed<u8>>" => Vec<Zeroed<u8>>,
+        8 "Vec<Lengthed<u8>>" => Vec<Lengthed<u8>>,
     }
 }
 
@@ -185,12 +183,12 @@ fn call_at_lengthed<C: TypedCall>(
 ) -> Result<Vec<String>, Fault> {
     call_at_one_of! {
         alloc, name, call;
-        "Lengthed<u8>" => Lengthed<u8>,
-        "Lengthed<i32>" => Lengthed<i32>,
-        "Lengthed<String>" => Lengthed<String>,
-        "Lengthed<(u8,u8)>" => Lengthed<(u8, u8)>,
-        "Lengthed<Zeroed<u8>>" => Lengthed<Zeroed<u8>>,
-        "Lengthed<Lengthed<u8>>" => Lengthed<Lengthed<u8>>,
+        0 "Lengthed<u8>" => Lengthed<u8>,
+        1 "Lengthed<i32>" => Lengthed<i32>,
+        2 "Lengthed<String>" => Lengthed<String>,
+        3 "Lengthed<(u8,u8)>" => Lengthed<(u8, u8)>,
+        4 "Lengthed<Zeroed<u8>>" => Lengthed<Zeroed<u8>>,
+        5 "Lengthed<Lengthed<u8>>" => Lengthed<Lengthed<u8>>,
     }
 }
 
@@ -202,14 +200,14 @@ fn call_at_zeroed<C: TypedCall>(
 ) -> Result<Vec<String>, Fault> {
     call_at_one_of! {
         alloc, name, call;
-        "Zeroed<u8>" => Zeroed<u8>,
-        "Zeroed<i32>" => Zeroed<i32>,
-        "Zeroed<bool>" => Zeroed<bool>,
-        "Zeroed<char>" => Zeroed<char>,
-        "Zeroed<String>" => Zeroed<String>,
-        "Zeroed<(u8,u8)>" => Zeroed<(u8, u8)>,
-        "Zeroed<Lengthed<u8>>" => Zeroed<Lengthed<u8>>,
-        "Zeroed<Lengthed<String>>" => Zeroed<Lengthed<String>>,
+        0 "Zeroed<u8>" => Zeroed<u8>,
+        1 "Zeroed<i32>" => Zeroed<i32>,
+        2 "Zeroed<bool>" => Zeroed<bool>,
+        3 "Zeroed<char>" => Zeroed<char>,
+        4 "Zeroed<String>" => Zeroed<String>,
+        5 "Zeroed<(u8,u8)>" => Zeroed<(u8, u8)>,
+        6 "Zeroed<Lengthed<u8>>" => Zeroed<Lengthed<u8>>,
+        7 "Zeroed<Lengthed<String>>" => Zeroed<Lengthed<String>>,
     }
 }
 
@@ -221,9 +219,9 @@ fn call_at_cheap<C: TypedCall>(
 ) -> Result<Vec<String>, Fault> {
     call_at_one_of! {
         alloc, name, call;
-        "WithCheapError<()>" => WithCheapError<()>,
-        "WithCheapError<i32>" => WithCheapError<i32>,
-        "WithCheapError<(u8,u8)>" => WithCheapError<(u8, u8)>,
-        "WithCheapError<Vec<u8>>" => WithCheapError<Vec<u8>>,
+        0 "WithCheapError<()>" => WithCheapError<()>,
+        1 "WithCheapError<i32>" => WithCheapError<i32>,
+        2 "WithCheapError<(u8,u8)>" => WithCheapError<(u8, u8)>,
+        3 "WithCheapError<Vec<u8>>" => WithCheapError<Vec<u8>>,
     }
 }
