@@ -1,6 +1,6 @@
 // Worked scans: what formats take from inputs.
 use numerals::NoMemory;
-use scan_fmt::parse::{ScanError, one_answer, scan, some_answer};
+use scan_fmt::parse::{Format, ScanError, Tokens, one_answer, scan, some_answer};
 use std::alloc::Global;
 use std::process::Abort;
 use std::test::Fail;
@@ -84,9 +84,9 @@ const SCANS: &str = "\
 ";
 
 /// The tokens, each with a semicolon after it.
-fn tokens_of(alloc: Global, format: &str, input: &str) -> Result<String, NoMemory> {
+fn joined(alloc: Global, tokens: Tokens) -> Result<String, NoMemory> {
     let mut text = String::new(alloc);
-    for token in scan(alloc, input, format)? {
+    for token in tokens {
         if text.push_str(&token).is_err() || text.push(';').is_err() {
             return Err(NoMemory);
         }
@@ -98,7 +98,8 @@ fn follow(rt: &impl Abort, alloc: Global, rows: &str) -> Result<(), Fail> {
     for row in rows.lines() {
         let (format, rest) = row.split_once('\t').ok_or("no format")?;
         let (input, tokens) = rest.split_once('\t').ok_or("no input")?;
-        let found = tokens_of(alloc, format, input).ok().ok_or("no memory")?;
+        let found = scan(alloc, input, format).ok().ok_or("no memory")?;
+        let found = joined(alloc, found).ok().ok_or("no memory")?;
         assert_eq!(rt; found.as_str(), tokens, "{format} of {input}");
     }
     Ok(())
@@ -109,6 +110,18 @@ fn formats_take_tokens(rt: HostRuntime) -> Result<(), Fail> {
     one_answer();
     some_answer();
     follow(&rt, rt.alloc(), SCANS)
+}
+
+#[test]
+fn a_format_scans_many_inputs(rt: HostRuntime) -> Result<(), Fail> {
+    let alloc = rt.alloc();
+    let format = Format::new(alloc, "{d}-{s}").ok().ok_or("no memory")?;
+    for (input, tokens) in [("1-a", "1;a;"), ("2 -b c", "2;b;"), ("3", "3;")] {
+        let found = format.scan(alloc, input).ok().ok_or("no memory")?;
+        let found = joined(alloc, found).ok().ok_or("no memory")?;
+        assert_eq!(rt; found.as_str(), tokens, "{input}");
+    }
+    Ok(())
 }
 
 #[test]
