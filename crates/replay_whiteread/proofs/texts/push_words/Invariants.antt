@@ -1,4 +1,3 @@
-use Rattle.std.proofs.Common.{length}
 use Rattle.replay_whiteread.proofs.texts.push_words.Given as goal
 
 abbrev pub decreases-words : goal.decreases-words
