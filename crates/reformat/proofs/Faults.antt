@@ -10,8 +10,7 @@ use Rattle.sprintf.specs.declared.PrintfError.TheVariants.{ParseError, WrongType
 use Rattle.sprintf.specs.declared.parser.FormatElement.{FormatElement}
 use Rattle.sprintf.proofs.ValueFaults.{takes_faults_from_values, carried_refuse_types}
 use Rattle.reformat.specs.declared.error.RenderFault.TheVariants.{WrongType, TooManyArgs, NotEnoughArgs}
-use Rattle.reformat.specs.Fault.{IsToldFault}
-use Rattle.reformat.specs.Format.{values_of}
+use Rattle.reformat.specs.Inner.Numbers.{values_of, IsToldFault}
 
 numbers_never : (fault : PrintfError) → fault ≢ CauseWrongType → (numbers : List ℕ) → AllByRecursion (NeverAnswers fault) (values_of numbers)
 numbers_never fault no_type [] = tt

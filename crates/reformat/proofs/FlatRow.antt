@@ -17,8 +17,9 @@ use Rattle.sprintf.specs.declared.parser.FormatElement.{FormatElement}
 use Rattle.sprintf.specs.declared.parser.FormatElement.TheVariants.{Verbatim, Format}
 use Rattle.sprintf.specs.declared.parser.NumericParam.{NumericParam}
 use Rattle.sprintf.specs.declared.parser.NumericParam.TheVariants.{Literal, FromArgument}
-use Rattle.reformat.specs.Format.{IsDigit, BeginsApart, IsPlain, EndsField, IsSeparated, values_of, IsRow}
-use Rattle.reformat.specs.Pieces.{Piece, Byte, Number, piece_text, EndsPiece, ArePiecesApart, IsPieceRow, Fit, bytes_onto, field_piece, flat}
+use Rattle.reformat.specs.Format.{IsDigit, BeginsApart, IsPlain, EndsField, IsSeparated}
+use Rattle.reformat.specs.Inner.Numbers.{values_of, IsNumberRow}
+use Rattle.reformat.specs.Inner.Pieces.{Piece, Byte, Number, piece_text, EndsPiece, ArePiecesApart, IsPieceRow, Fit, bytes_onto, field_piece, flat}
 use Rattle.reformat.proofs.UniqueRow.{one_row}
 
 pub percent_piece : (f : ConversionSpecifier) → f.conversion_type ≡ PercentSign → field_piece f.conversion_type ≡ Byte 37
@@ -154,9 +155,9 @@ flat_text (Format f ∷ elements) (n ∷ numbers) line apart fit e =
     ]
 
 -- a row is a row of the flat pieces, so it has one list at most
-pub flat_row : (elements : List FormatElement) (line numbers : List ℕ) → IsSeparated elements → IsRow elements line numbers → IsPieceRow (flat elements) line numbers
+pub flat_row : (elements : List FormatElement) (line numbers : List ℕ) → IsSeparated elements → IsNumberRow elements line numbers → IsPieceRow (flat elements) line numbers
 flat_row elements line numbers apart row = record { text = flat_text elements numbers line apart (recursion_from_All _ numbers row.fit) row.text; fit = row.fit }
 
-pub one_list_of : (elements : List FormatElement) (line ns ms : List ℕ) → IsSeparated elements → IsRow elements line ns → IsRow elements line ms → ns ≡ ms
+pub one_list_of : (elements : List FormatElement) (line ns ms : List ℕ) → IsSeparated elements → IsNumberRow elements line ns → IsNumberRow elements line ms → ns ≡ ms
 one_list_of elements line ns ms apart one two =
     one_row (flat elements) line ns ms (flat_apart elements apart) (flat_row elements line ns apart one) (flat_row elements line ms apart two)
