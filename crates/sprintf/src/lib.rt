@@ -172,8 +172,8 @@ fn take_param<P: Printf>(param: NumericParam, args: &[P]) -> Result<(NumericPara
     let NumericParam::FromArgument = param else {
         return Ok((param, args));
     };
-    let (first, left) = args.split_first().ok_or(PrintfError::NotEnoughArgs)?;
-    let number = first.as_int().ok_or(PrintfError::WrongType)?;
+    let (value, left) = args.split_first().ok_or(PrintfError::NotEnoughArgs)?;
+    let number = value.as_int().ok_or(PrintfError::WrongType)?;
     Ok((NumericParam::Literal(number), left))
 }
 
