@@ -6,13 +6,11 @@ ghost use Rattle.numerals.specs.Numeral.{base_of};
 
 mod laws;
 mod read;
-#[cfg(test)]
-mod tests;
 mod write;
 
 pub use laws::{longer_numeral, numeral_is_std, numeral_of_value, numeral_reads_back, one_numeral};
 pub use read::read_digits;
-pub use write::{count_digits, push_digits};
+pub use write::{count_digits, digits_of, push_digits};
 
 /// A growth of a text or a list was refused.
 #[derive(Clone, Copy, Debug, PartialEq, Eq)]

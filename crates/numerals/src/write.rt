@@ -1,5 +1,5 @@
 //! Numbers written as digits, and how many digits that takes.
-ghost use Rattle.std.specs.Prelude.{false, ◌≡◌, ◌++◌, ◌<◌, ◌≤◌, length, drop, string_bytes, OnErr, OnOk};
+ghost use Rattle.std.specs.Prelude.{false, ◌≡◌, ◌++◌, ◌*◌, ◌^◌, ◌<◌, ◌≤◌, ◌↔◌, length, drop, string_bytes, IsSome, IfSome, OnErr, OnOk};
 ghost use Rattle.std.specs.Fmt.{digit_glyph, digits_onto};
 ghost use Rattle.numerals.specs.Numeral.{base_of, numeral};
 
@@ -13,20 +13,43 @@ pub fn push_digits(out: &mut String, n: u128, radix: Radix, upper: bool) -> Resu
     ensures err { OnErr result (string_bytes out.new ≡ string_bytes out.old) }
 {
     let mut buffer = [0; 128];
-    let start = write_digits(n, radix, upper, &mut buffer);
+    out.push_str(digits_of(n, radix, upper, &mut buffer))
+        .map_err(|_| NoMemory)
+}
+
+/// The digits that `push_digits` appends, written at the end of the buffer. Takes no memory.
+#[inline]
+pub fn digits_of(n: u128, radix: Radix, upper: bool, buffer: &mut [u8; 128]) -> &str
+    ensures digits { result.now ≡ numeral (base_of radix) upper n }
+    ensures short { length result.now ≤ 128 }
+{
+    let start = write_digits(n, radix, upper, buffer);
     let bytes = &buffer[..];
     // Digits are ASCII.
-    let digits = unsafe { from_utf8_unchecked(&bytes[start..]) };
-    out.push_str(digits).map_err(|_| NoMemory)
+    unsafe { from_utf8_unchecked(&bytes[start..]) }
 }
 
 /// How many digits `push_digits` writes: at least one, at most 128. Takes no memory.
 pub fn count_digits(n: u128, radix: Radix) -> usize
     ensures { result ≡ length (numeral (base_of radix) false n) }
 {
-    match n.checked_ilog(u128::from(radix.base())) {
+    match logarithm(n, radix.base()) {
         Some(power) => power as usize + 1,
         None => 1,
+    }
+}
+
+// The greatest exponent by which a power of the base is within `n`. Most numbers fit 64 bits, which are quicker.
+fn logarithm(n: u128, base: u32) -> Option<u32>
+    requires { 2 ≤ base }
+    ensures variant { IsSome result ↔ (0 < n) }
+    ensures power_le { IfSome result (λ k. base ^ k ≤ n) }
+    ensures next_power_gt { IfSome result (λ k. n < base * base ^ k) }
+    ensures bound { IfSome result (λ k. k < 128) }
+{
+    match u64::try_from(n) {
+        Ok(narrow) => narrow.checked_ilog(u64::from(base)),
+        Err(_) => n.checked_ilog(u128::from(base)),
     }
 }
 

@@ -1,15 +1,18 @@
 //! The program: its words, the three real ends, and the exit status.
 #![tactic(auto)]
 
-use edge_io::{StderrSink, StdinSource, StdoutSink};
+use edge_io::{Sink, StderrSink, StdinSource, StdoutSink, write_all};
 use reformat::run;
 use std::alloc::Global;
 use std::io::ErrorKind;
 use std::process::ExitCode;
 use std::{env, io};
 
-/// The status where there is no memory for the words.
-const NO_MEMORY: u8 = 6;
+/// Says that there is no memory for the words, as far as the error output takes it, and answers the status.
+fn tell_no_memory<E: Sink>(errors: &mut E) -> u8 {
+    let _ = write_all(errors, b"no memory\n");
+    6
+}
 
 /// The words after the program's name.
 fn collect_words(rt: &HostRuntime, alloc: Global) -> io::Result<Vec<String>> {
@@ -27,7 +30,7 @@ fn main(rt: HostRuntime) -> ExitCode {
     let mut errors = StderrSink::new(&rt);
     let status = match collect_words(&rt, alloc) {
         Ok(words) => run(alloc, &words, &mut input, &mut output, &mut errors),
-        Err(why) if why.kind() == ErrorKind::OutOfMemory => NO_MEMORY,
+        Err(why) if why.kind() == ErrorKind::OutOfMemory => tell_no_memory(&mut errors),
         // Words that can't be had, as one that isn't UTF-8, are no command: neither is no word.
         Err(_) => run(alloc, &[], &mut input, &mut output, &mut errors),
     };

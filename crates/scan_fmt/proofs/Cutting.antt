@@ -5,11 +5,12 @@ use Rattle.std.specs.Char.{digit_value}
 use Rattle.std.specs.Str.Parse.{AllDigits}
 use Rattle.std.proofs.lemmas.Bool.{cases_eq, cases_lt, cases_Bool}
 use Rattle.scan_fmt.specs.Sets.{IsListing}
-use Rattle.scan_fmt.specs.Directives.{Shape, Until, Solid, Decimal, Hexadecimal, Float, Among, AtEnd, Directive, Exactly, Field, first, star, caret, limit_of, Names, SpellsShape, Spells, NoDirective, Cuts, is_blank, after_blanks}
+use Rattle.scan_fmt.specs.Directives.{Until, Solid, Among, Decimal, Hexadecimal, Float, Shape, Characters, Number, Directive, Exactly, Field, AtEnd, first, star, caret, limit_of, Spells, NoDirective, Cuts, is_blank, after_blanks}
+use Rattle.scan_fmt.specs.Inner.Fields.{Names, SpellsBody, alone, named, field_of, SpellsField}
 use Rattle.scan_fmt.specs.Scanned.{IsLongest}
 use Rattle.scan_fmt.proofs.Longest.{longest_stops, longest_cons}
 use Rattle.scan_fmt.proofs.Characters.{listing_none}
-use Rattle.scan_fmt.proofs.Spelled.{heads, closed_none, Spelled, alone, named, spelled, shape_none, field_none_star, directive_none}
+use Rattle.scan_fmt.proofs.Spelled.{heads, closed_none, body_none, body_named, shape_body, end_body, field_spells, field_none_star, field_none_plain, directive_none}
 use Rattle.scan_fmt.proofs.OneAnswer.{Name, letter, set, name_of, no_caret, uninverted}
 
 -- a character in front, or not
@@ -53,26 +54,26 @@ closed (c ∷ cs) = elim (bracket cs) [
 
 -- a name in front, or none
 Named : Option ℕ → List ℕ → Type 0
-Named n name = ((s : Shape) × (rest : List ℕ) × Names s n name rest) ⊎ ((s : Shape) (rest : List ℕ) → Names s n name rest → ⊥)
+Named n name = ((s : Option Shape) × (rest : List ℕ) × Names s n name rest) ⊎ ((s : Option Shape) (rest : List ℕ) → Names s n name rest → ⊥)
 
 -- of a set, after its bracket
 set_caret : (n : Option ℕ) (text : List ℕ) → Closed text → Named n (91 ∷ 94 ∷ text)
 unfolding Closed Named
-set_caret n text (inl (l, r, e, is)) = inl (Among true l, r, (ap (λ (t : List ℕ). 91 ∷ 94 ∷ t) e, is))
+set_caret n text (inl (l, r, e, is)) = inl (Some (Characters (Among true l)), r, (ap (λ (t : List ℕ). 91 ∷ 94 ∷ t) e, is))
 set_caret n text (inr none) = inr (λ s rest h. refute s rest (name_of s n (91 ∷ 94 ∷ text) rest h)) where
-  refute : (s : Shape) (rest : List ℕ) → Name s n (91 ∷ 94 ∷ text) rest → ⊥
+  refute : (s : Option Shape) (rest : List ℕ) → Name s n (91 ∷ 94 ∷ text) rest → ⊥
   refute s rest (letter k is h e) = h (sym (heads 91 k (94 ∷ text) (125 ∷ rest) e).0)
   refute s rest (set true l is e h) = none l rest (heads 94 94 text (l ++ 93 ∷ 125 ∷ rest) (heads 91 91 (94 ∷ text) (94 ∷ (l ++ 93 ∷ 125 ∷ rest)) e).1).1 h
   refute s rest (set false l is e h) = no_caret l (93 ∷ 125 ∷ rest) text h (sym (heads 91 91 (94 ∷ text) (l ++ 93 ∷ 125 ∷ rest) e).1)
 
 set_plain : (n : Option ℕ) (text : List ℕ) → ((rest : List ℕ) → text ≢ 94 ∷ rest) → Closed text → Named n (91 ∷ text)
 unfolding Closed Named
-set_plain n text plain (inl (l, r, e, is)) = inl (Among false l, r, (ap (λ (t : List ℕ). 91 ∷ t) e, plainly l e is)) where
+set_plain n text plain (inl (l, r, e, is)) = inl (Some (Characters (Among false l)), r, (ap (λ (t : List ℕ). 91 ∷ t) e, plainly l e is)) where
   plainly : (l : List ℕ) → text ≡ l ++ 93 ∷ 125 ∷ r → IsListing true l → IsListing false l
   plainly [] e is = is
   plainly (c ∷ cs) e is = ((λ h at. plain (cs ++ 93 ∷ 125 ∷ r) (e ∙ ap (λ x. x ∷ (cs ++ 93 ∷ 125 ∷ r)) at)), is.1)
 set_plain n text plain (inr none) = inr (λ s rest h. refute s rest (name_of s n (91 ∷ text) rest h)) where
-  refute : (s : Shape) (rest : List ℕ) → Name s n (91 ∷ text) rest → ⊥
+  refute : (s : Option Shape) (rest : List ℕ) → Name s n (91 ∷ text) rest → ⊥
   refute s rest (letter k is h e) = h (sym (heads 91 k text (125 ∷ rest) e).0)
   refute s rest (set true l is e h) = plain (l ++ 93 ∷ 125 ∷ rest) (heads 91 91 text (94 ∷ (l ++ 93 ∷ 125 ∷ rest)) e).1
   refute s rest (set false l is e h) = none l rest (heads 91 91 text (l ++ 93 ∷ 125 ∷ rest) e).1 (uninverted l h)
@@ -86,44 +87,44 @@ set_name n text = elim (stands 94 text) [
 
 -- of a letter
 Lettered : ℕ → Option ℕ → Type 0
-Lettered k n = ((s : Shape) × ((rest : List ℕ) → Names s n (k ∷ 125 ∷ rest) rest)) ⊎ ((s : Shape) (rest : List ℕ) → Names s n (k ∷ 125 ∷ rest) rest → ⊥)
+Lettered k n = ((s : Option Shape) × ((rest : List ℕ) → Names s n (k ∷ 125 ∷ rest) rest)) ⊎ ((s : Option Shape) (rest : List ℕ) → Names s n (k ∷ 125 ∷ rest) rest → ⊥)
 
 lettered : (k : ℕ) (n : Option ℕ) → k ≢ 91 → Lettered k n
 unfolding Lettered
 lettered k n no_set = elim (cases_eq k 115) [
-  | inl e ↦ inl (Solid, λ rest. ap (λ x. x ∷ 125 ∷ rest) e)
+  | inl e ↦ inl (Some (Characters Solid), λ rest. ap (λ x. x ∷ 125 ∷ rest) e)
   | inr a ↦ elim (cases_eq k 100) [
-    | inl e ↦ inl (Decimal n, λ rest. (ap (λ x. x ∷ 125 ∷ rest) e, refl))
+    | inl e ↦ inl (Some (Number Decimal n), λ rest. (ap (λ x. x ∷ 125 ∷ rest) e, refl))
     | inr b ↦ elim (cases_eq k 120) [
-      | inl e ↦ inl (Hexadecimal n, λ rest. (ap (λ x. x ∷ 125 ∷ rest) e, refl))
+      | inl e ↦ inl (Some (Number Hexadecimal n), λ rest. (ap (λ x. x ∷ 125 ∷ rest) e, refl))
       | inr d ↦ elim (cases_eq k 102) [
-        | inl e ↦ inl (Float n, λ rest. (ap (λ x. x ∷ 125 ∷ rest) e, refl))
+        | inl e ↦ inl (Some (Number Float n), λ rest. (ap (λ x. x ∷ 125 ∷ rest) e, refl))
         | inr f ↦ elim (cases_eq k 101) [
-          | inl e ↦ inl (AtEnd, λ rest. ap (λ x. x ∷ 125 ∷ rest) e)
+          | inl e ↦ inl (None, λ rest. ap (λ x. x ∷ 125 ∷ rest) e)
           | inr g ↦ inr (refute a b d f g)
         ]
       ]
     ]
   ]
 ] where
-  refute : k ≢ 115 → k ≢ 100 → k ≢ 120 → k ≢ 102 → k ≢ 101 → (s : Shape) (rest : List ℕ) → Names s n (k ∷ 125 ∷ rest) rest → ⊥
-  refute a b d f g (Until stop) rest h = h
-  refute a b d f g Solid rest h = a (heads k 115 (125 ∷ rest) (125 ∷ rest) h).0
-  refute a b d f g (Decimal limit) rest h = b (heads k 100 (125 ∷ rest) (125 ∷ rest) h.0).0
-  refute a b d f g (Hexadecimal limit) rest h = d (heads k 120 (125 ∷ rest) (125 ∷ rest) h.0).0
-  refute a b d f g (Float limit) rest h = f (heads k 102 (125 ∷ rest) (125 ∷ rest) h.0).0
-  refute a b d f g (Among inverted listing) rest h = no_set (heads k 91 (125 ∷ rest) (caret inverted ++ (listing ++ 93 ∷ 125 ∷ rest)) h.0).0
-  refute a b d f g AtEnd rest h = g (heads k 101 (125 ∷ rest) (125 ∷ rest) h).0
+  refute : k ≢ 115 → k ≢ 100 → k ≢ 120 → k ≢ 102 → k ≢ 101 → (s : Option Shape) (rest : List ℕ) → Names s n (k ∷ 125 ∷ rest) rest → ⊥
+  refute a b d f g (Some (Characters (Until stop))) rest h = h
+  refute a b d f g (Some (Characters Solid)) rest h = a (heads k 115 (125 ∷ rest) (125 ∷ rest) h).0
+  refute a b d f g (Some (Characters (Among inverted listing))) rest h = no_set (heads k 91 (125 ∷ rest) (caret inverted ++ (listing ++ 93 ∷ 125 ∷ rest)) h.0).0
+  refute a b d f g (Some (Number Decimal limit)) rest h = b (heads k 100 (125 ∷ rest) (125 ∷ rest) h.0).0
+  refute a b d f g (Some (Number Hexadecimal limit)) rest h = d (heads k 120 (125 ∷ rest) (125 ∷ rest) h.0).0
+  refute a b d f g (Some (Number Float limit)) rest h = f (heads k 102 (125 ∷ rest) (125 ∷ rest) h.0).0
+  refute a b d f g None rest h = g (heads k 101 (125 ∷ rest) (125 ∷ rest) h).0
 
 -- a name that doesn't begin with a bracket has its brace next
-brace_next : (s : Shape) (n : Option ℕ) (k : ℕ) (more rest : List ℕ) → k ≢ 91 → Name s n (k ∷ more) rest → more ≡ 125 ∷ rest
+brace_next : (s : Option Shape) (n : Option ℕ) (k : ℕ) (more rest : List ℕ) → k ≢ 91 → Name s n (k ∷ more) rest → more ≡ 125 ∷ rest
 brace_next s n k more rest no_set (letter j is h e) = (heads k j more (125 ∷ rest) e).1
 brace_next s n k more rest no_set (set i l is e h) = absurd (no_set (heads k 91 more (caret i ++ (l ++ 93 ∷ 125 ∷ rest)) e).0)
 
 name_in_front : (n : Option ℕ) (name : List ℕ) → Named n name
 unfolding Named Stands Lettered
 name_in_front n [] = inr (λ s rest h. nothing s rest (name_of s n [] rest h)) where
-  nothing : (s : Shape) (rest : List ℕ) → Name s n [] rest → ⊥
+  nothing : (s : Option Shape) (rest : List ℕ) → Name s n [] rest → ⊥
   nothing s rest (letter k is h e) = absurd (omega (arith, ap length e))
   nothing s rest (set i l is e h) = absurd (omega (arith, ap length e))
 name_in_front n (k ∷ more) = elim (cases_eq k 91) [
@@ -146,43 +147,30 @@ digits_front (x ∷ xs) = elim (cases_lt (digit_value x) 10) [
   | inr high ↦ ([], x ∷ xs, longest_stops (AllDigits 10) (x ∷ xs) [] (x ∷ xs) refl tt (λ c more at can. let same : x ≡ c = (let k : Some x ≡ Some c = at in cc) in omega (arith, can.0, subst (λ y. 10 ≤ digit_value y) same high)))
 ]
 
-pub named_spells : (s : Shape) (text ds name rest : List ℕ) → text ≡ ds ++ name → AllDigits 10 ds → Names s (limit_of ds) name rest → SpellsShape s text rest
-named_spells (Until stop) text ds name rest e digits h = absurd h
-named_spells Solid text ds name rest e digits h = (ds, name, e, digits, h)
-named_spells (Decimal limit) text ds name rest e digits h = (ds, name, e, digits, h)
-named_spells (Hexadecimal limit) text ds name rest e digits h = (ds, name, e, digits, h)
-named_spells (Float limit) text ds name rest e digits h = (ds, name, e, digits, h)
-named_spells (Among inverted listing) text ds name rest e digits h = (ds, name, e, digits, h)
-named_spells AtEnd text ds name rest e digits h = (ds, name, e, digits, h)
+Bodied : List ℕ → Type 0
+Bodied text = ((s : Option Shape) × (rest : List ℕ) × SpellsBody s text rest) ⊎ ((s : Option Shape) (rest : List ℕ) → SpellsBody s text rest → ⊥)
 
-Shaped : List ℕ → Type 0
-Shaped text = ((s : Shape) × (rest : List ℕ) × SpellsShape s text rest) ⊎ ((s : Shape) (rest : List ℕ) → SpellsShape s text rest → ⊥)
-
-shape_in_front : (text : List ℕ) → Shaped text
-unfolding Shaped Stands Named
-shape_in_front text = elim (stands 125 text) [
-  | inl (rest, e) ↦ inl (Until (first rest), rest, (e, refl))
+body_in_front : (text : List ℕ) → Bodied text
+unfolding Bodied Stands Named
+body_in_front text = elim (stands 125 text) [
+  | inl (rest, e) ↦ inl (Some (Characters (Until (first rest))), rest, alone (first rest) refl e refl)
   | inr no_brace ↦ (let front = digits_front text in elim (name_in_front (limit_of front.0) front.1) [
-    | inl (s, rest, h) ↦ inl (s, rest, named_spells s text front.0 front.1 rest front.2.whole front.2.shape h)
-    | inr none ↦ inr (shape_none text front.0 front.1 (limit_of front.0) front.2 refl no_brace none)
+    | inl (s, rest, h) ↦ inl (s, rest, body_named s text front.0 front.1 rest (limit_of front.0) front.2 refl h)
+    | inr none ↦ inr (body_none text front.0 front.1 (limit_of front.0) front.2 refl no_brace none)
   ])
 ]
 
 Fielded : List ℕ → Type 0
-Fielded text = ((stored : Bool) × (s : Shape) × (rest : List ℕ) × Spells (Field stored s) (123 ∷ text) rest) ⊎ ((stored : Bool) (s : Shape) (rest : List ℕ) → Spells (Field stored s) (123 ∷ text) rest → ⊥)
-
-field_none_plain : (text : List ℕ) → ((rest : List ℕ) → text ≢ 42 ∷ rest) → ((s : Shape) (rest : List ℕ) → SpellsShape s text rest → ⊥) → (stored : Bool) (s : Shape) (rest : List ℕ) → Spells (Field stored s) (123 ∷ text) rest → ⊥
-field_none_plain text plain none true s rest (body, e, h) = none s rest (subst (λ (t : List ℕ). SpellsShape s t rest) (sym (heads 123 123 text body e).1) h)
-field_none_plain text plain none false s rest (body, e, h) = plain body (heads 123 123 text (42 ∷ body) e).1
+Fielded text = ((stored : Bool) × (s : Option Shape) × (rest : List ℕ) × SpellsField stored s text rest) ⊎ ((stored : Bool) (s : Option Shape) (rest : List ℕ) → SpellsField stored s text rest → ⊥)
 
 field_in_front : (text : List ℕ) → Fielded text
-unfolding Fielded Shaped Stands
+unfolding Fielded Bodied Stands
 field_in_front text = elim (stands 42 text) [
-  | inl (more, e) ↦ elim (shape_in_front more) [
-    | inl (s, rest, h) ↦ inl (false, s, rest, (more, ap (λ (t : List ℕ). 123 ∷ t) e, h))
+  | inl (more, e) ↦ elim (body_in_front more) [
+    | inl (s, rest, h) ↦ inl (false, s, rest, (more, e, h))
     | inr none ↦ inr (field_none_star text more e none)
   ]
-  | inr plain ↦ elim (shape_in_front text) [
+  | inr plain ↦ elim (body_in_front text) [
     | inl (s, rest, h) ↦ inl (true, s, rest, (text, refl, h))
     | inr none ↦ inr (field_none_plain text plain none)
   ]
@@ -197,14 +185,19 @@ nothing_spells (Exactly c) rest (inl h) = absurd (omega (arith, ap length h.0))
 nothing_spells (Exactly c) rest (inr (inl h)) = absurd (omega (arith, ap length h.0))
 nothing_spells (Exactly c) rest (inr (inr h)) = absurd (omega (arith, ap length h))
 nothing_spells (Field stored s) rest (body, e, h) = absurd (omega (arith, ap length e))
+nothing_spells AtEnd rest (body, starred, any, e, h) = absurd (omega (arith, ap length e))
+
+no_field : (text : List ℕ) → 125 ∷ [] ≡ 123 ∷ text → ⊥
+no_field text e = apart (heads 125 123 [] text e).0 where
+  apart : ◌≡◌ {A = ℕ} 125 123 → ⊥
+  apart k = omega arith
 
 lone_brace : NoDirective (125 ∷ [])
 lone_brace (Exactly c) rest (inl h) = h.2 (sym (heads 125 c [] rest h.0).0)
 lone_brace (Exactly c) rest (inr (inl h)) = absurd (omega (arith, ap length h.0))
 lone_brace (Exactly c) rest (inr (inr h)) = absurd (omega (arith, ap length h))
-lone_brace (Field stored s) rest (body, e, h) = apart (heads 125 123 [] (star stored ++ body) e).0 where
-  apart : ◌≡◌ {A = ℕ} 125 123 → ⊥
-  apart k = omega arith
+lone_brace (Field stored s) rest (body, e, h) = no_field (star stored ++ body) e
+lone_brace AtEnd rest (body, starred, any, e, h) = no_field (star starred ++ body) e
 
 after_close : (cs : List ℕ) → Front (125 ∷ cs)
 unfolding Front
@@ -216,7 +209,7 @@ unfolding Front Fielded Stands
 after_open cs = elim (stands 123 cs) [
   | inl (rest, e) ↦ inl (Exactly 123, rest, inr (inl (ap (λ (t : List ℕ). 123 ∷ t) e, refl)))
   | inr opens ↦ elim (field_in_front cs) [
-    | inl (stored, s, rest, h) ↦ inl (Field stored s, rest, h)
+    | inl (stored, s, rest, h) ↦ inl (field_of stored s, rest, field_spells stored s cs rest h)
     | inr none ↦ inr (directive_none (123 ∷ cs) cs refl opens none)
   ]
 ]
@@ -233,19 +226,20 @@ directive_in_front (c ∷ cs) = elim (cases_eq c 125) [
 ]
 
 -- a directive is at least a character long
-name_longer : (s : Shape) (n : Option ℕ) (name rest : List ℕ) → Name s n name rest → length rest < length name
+name_longer : (s : Option Shape) (n : Option ℕ) (name rest : List ℕ) → Name s n name rest → length rest < length name
 name_longer s n name rest (letter k is h e) = omega (arith, ap length e)
 name_longer s n name rest (set i l is e h) = omega (arith, ap length e, length-append (caret i) (l ++ 93 ∷ 125 ∷ rest), length-append l (93 ∷ 125 ∷ rest))
 
-shape_longer : (s : Shape) (text rest : List ℕ) → Spelled s text rest → length rest < length text
-shape_longer s text rest (alone stop is e at) = omega (arith, ap length e)
-shape_longer s text rest (named n) = omega (arith, ap length n.whole, length-append n.ds n.name, name_longer s (limit_of n.ds) n.name rest (name_of s (limit_of n.ds) n.name rest n.named))
+body_longer : (s : Option Shape) (text rest : List ℕ) → SpellsBody s text rest → length rest < length text
+body_longer s text rest (alone stop is e at) = omega (arith, ap length e)
+body_longer s text rest (named n) = omega (arith, ap length n.whole, length-append n.ds n.name, name_longer s (limit_of n.ds) n.name rest (name_of s (limit_of n.ds) n.name rest n.named))
 
 pub spells_longer : (d : Directive) (format rest : List ℕ) → Spells d format rest → length rest < length format
 spells_longer (Exactly c) format rest (inl h) = omega (arith, ap length h.0)
 spells_longer (Exactly c) format rest (inr (inl h)) = omega (arith, ap length h.0)
 spells_longer (Exactly c) format rest (inr (inr h)) = omega (arith, ap length h)
-spells_longer (Field stored s) format rest (body, e, h) = omega (arith, ap length e, length-append (star stored) body, shape_longer s body rest (spelled s body rest h))
+spells_longer (Field stored s) format rest (body, e, h) = omega (arith, ap length e, length-append (star stored) body, body_longer (Some s) body rest (shape_body s body rest h))
+spells_longer AtEnd format rest (body, starred, any, e, h) = omega (arith, ap length e, length-append (star starred) body, body_longer None body rest (end_body body rest any h))
 
 pub blanks_shorter : (text : List ℕ) → length (after_blanks text) ≤ length text
 blanks_shorter [] = omega arith

@@ -5,8 +5,8 @@ use Rattle.std.specs.Char.{digit_value}
 use Rattle.std.specs.Str.Parse.{AllDigits}
 use Rattle.std.proofs.lemmas.Bool.{and_parts, eqb-true}
 use Rattle.std.proofs.lemmas.Bool.Decides.{nat_tests}
-use Rattle.scan_fmt.specs.Directives.{first}
-use Rattle.scan_fmt.specs.Scanned.{IsLongest, Optionally, IsSigned, IsPrefixed, IsFloat, begins_0x}
+use Rattle.scan_fmt.specs.Directives.{Notation, Decimal, Hexadecimal, Float, first}
+use Rattle.scan_fmt.specs.Scanned.{IsLongest, Optionally, IsSigned, IsPrefixed, IsFloat, IsNumber, begins_0x}
 use Rattle.scan_fmt.proofs.Longest.{longest_stops, longest_stops_at, longest_same, longest_cons, longest_then}
 
 pub all_digits_more : (b c : ℕ) (xs more : List ℕ) → AllDigits b (xs ++ c ∷ more) → digit_value c < b
@@ -234,3 +234,8 @@ prefixed_ascii xs h = by_form (form_of xs h) where
   by_form (bare each) = digits_ascii 16 xs (omega arith) each
   by_form (with_x ds e each) = subst (AllByRecursion (λ c. c < 128)) (sym e) (omega arith, digits_ascii 16 ds (omega arith) each)
   by_form (with_0x ds e each) = subst (AllByRecursion (λ c. c < 128)) (sym e) (omega arith, (omega arith, digits_ascii 16 ds (omega arith) each))
+
+pub number_ascii : (notation : Notation) (xs : List ℕ) → IsNumber notation xs → AllByRecursion (λ c. c < 128) xs
+number_ascii Decimal xs h = signed_ascii xs h
+number_ascii Hexadecimal xs h = prefixed_ascii xs h
+number_ascii Float xs h = float_ascii xs h

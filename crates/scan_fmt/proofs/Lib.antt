@@ -6,5 +6,5 @@ pub mod Spelled
 pub mod Runs
 pub mod OneAnswer
 pub mod Cutting
-pub mod Gives
+pub mod Taking
 pub mod SomeAnswer

@@ -1,5 +1,5 @@
 pub mod Directives
-pub mod Parts
+pub mod Inner
 pub mod Readings
 pub mod Scanned
 pub mod Sets

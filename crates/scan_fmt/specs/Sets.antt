@@ -1,6 +1,7 @@
 -- The characters of a set, by what stands between its brackets.
 use Rattle.std.specs.Prelude.{◌≡◌, ◌≢◌, ℕ, Bool, false, not, ◌||◌, ◌&&◌, ◌==◌, nat_le, if◌then◌else◌, List, [], ◌∷◌}
 use Rattle.std.specs.List.{AllByRecursion}
+use Rattle.std.specs.Str.{byte}
 
 -- the character lies between the ends of a range, both included
 abbrev pub is_between : ℕ → ℕ → ℕ → Bool
@@ -11,12 +12,12 @@ abbrev pub is_in_ranges : List ℕ → ℕ → Bool
 is_in_ranges [] c = false
 is_in_ranges (a ∷ []) c = c == a
 is_in_ranges (a ∷ b ∷ []) c = (c == a) || (c == b)
-is_in_ranges (a ∷ b ∷ z ∷ rest) c = if b == 45 then is_between a z c || is_in_ranges rest c else (c == a) || is_in_ranges (b ∷ z ∷ rest) c
+is_in_ranges (a ∷ b ∷ z ∷ rest) c = if b == byte "-" then is_between a z c || is_in_ranges rest c else (c == a) || is_in_ranges (b ∷ z ∷ rest) c
 
 -- a dash or a closing bracket that stands first is itself, and no end of a range
 abbrev pub is_listed : List ℕ → ℕ → Bool
 is_listed [] c = false
-is_listed (a ∷ rest) c = if (a == 45) || (a == 93) then (c == a) || is_in_ranges rest c else is_in_ranges (a ∷ rest) c
+is_listed (a ∷ rest) c = if (a == byte "-") || (a == byte "]") then (c == a) || is_in_ranges rest c else is_in_ranges (a ∷ rest) c
 
 -- a set has the characters that its listing lists, or, inverted, all others
 abbrev pub is_in_set : Bool → List ℕ → ℕ → Bool
@@ -25,4 +26,4 @@ is_in_set inverted listing c = if inverted then not (is_listed listing c) else i
 -- what may stand between the brackets: something, of which only the first may be a closing bracket, and a caret in front inverts
 abbrev pub IsListing : Bool → List ℕ → Type 0
 IsListing inverted [] = ⊥
-IsListing inverted (c ∷ cs) = (inverted ≡ false → c ≢ 94) × AllByRecursion (λ d. d ≢ 93) cs
+IsListing inverted (c ∷ cs) = (inverted ≡ false → c ≢ byte "^") × AllByRecursion (λ d. d ≢ byte "]") cs

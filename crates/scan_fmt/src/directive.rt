@@ -1,30 +1,53 @@
-// The directives of a format: literal characters and fields.
-ghost use Rattle.std.specs.Prelude.{◌≡◌, ◌≢◌, ◌<◌, ◌∷◌, ◌++◌, ℕ, List, Option, Bool, true, false, IfNone, IfSome};
-ghost use Rattle.std.specs.Str.{chars};
+// The directives of a format: literal characters, fields, and the end of the input.
+ghost use Rattle.std.specs.Prelude.{◌≡◌, ◌≢◌, ◌<◌, ◌∷◌, ◌++◌, ℕ, List, Option, Bool, true, false, Some, IfNone, IfSome, codes};
+ghost use Rattle.std.specs.Str.{byte, chars};
 ghost use Rattle.std.specs.Str.Parse.{AllDigits};
-ghost use Rattle.scan_fmt.specs.Directives.{after_blanks, limit_of, Names, SpellsShape, Spells, NoDirective};
-ghost use Rattle.scan_fmt.specs.Directives.{Shape as ShapeView, Field as FieldView};
+ghost use Rattle.scan_fmt.specs.Directives.{after_blanks, limit_of, Spells, NoDirective};
+ghost use Rattle.scan_fmt.specs.Directives.{Shape as ShapeView, Characters, Among};
 ghost use Rattle.scan_fmt.specs.Scanned.{IsLongest};
-ghost use Rattle.scan_fmt.specs.Parts.{shape_of, directive_of};
+ghost use Rattle.scan_fmt.specs.Inner.Fields.{Names, SpellsBody, SpellsField, field_of};
+ghost use Rattle.scan_fmt.specs.Inner.Parts.{body_of, directive_of};
 ghost use Rattle.scan_fmt.specs.Sets.{IsListing};
 
 use crate::number::digits_len;
 use crate::text::{before, first, skip_blanks, split_first, strip};
 
+/// The characters that a run may have.
+#[derive(Clone, Copy)]
+pub enum Run<'f> {
+    /// All but white space and this character.
+    Until(Option<char>),
+    /// All but white space.
+    Solid,
+    /// Those that are listed, or, inverted, those that aren't.
+    Among { inverted: bool, listing: &'f str },
+}
+
+/// How a number is written.
+#[derive(Clone, Copy)]
+pub enum Notation {
+    Decimal,
+    Hexadecimal,
+    Float,
+}
+
 /// What a field takes.
 #[derive(Clone, Copy)]
 pub enum Shape<'f> {
-    /// A run without white space and without this character.
-    Run(Option<char>),
-    /// A run without white space.
-    Word,
-    Decimal(Option<usize>),
-    Hexadecimal(Option<usize>),
-    Float(Option<usize>),
-    /// A run of characters that are listed, or, inverted, that aren't.
-    Set { inverted: bool, listing: &'f str },
-    /// Nothing: the input must be at its end.
-    End,
+    Characters(Run<'f>),
+    /// A number of at most so many characters.
+    Number {
+        notation: Notation,
+        limit: Option<usize>,
+    },
+}
+
+/// What stands between a field's braces.
+#[derive(Clone, Copy)]
+enum Body<'f> {
+    Takes(Shape<'f>),
+    /// The letter of the end.
+    Ends,
 }
 
 #[derive(Clone, Copy)]
@@ -32,6 +55,19 @@ pub enum Directive<'f> {
     /// A character that the input must have.
     Literal(char),
     Field { stored: bool, shape: Shape<'f> },
+    /// The input must be at its end.
+    End,
+}
+
+impl<'f> Body<'f> {
+    fn directive(self, stored: bool) -> Directive<'f>
+        ensures { directive_of result ≡ field_of stored (body_of self.entry) }
+    {
+        match self {
+            Body::Takes(shape) => Directive::Field { stored, shape },
+            Body::Ends => Directive::End,
+        }
+    }
 }
 
 /// The limit that these digits give.
@@ -56,8 +92,8 @@ fn limit(text: &str) -> (Option<usize>, &str)
 
 /// The listing of a set, and what follows the bracket that closes it.
 fn listing(text: &str) -> Option<(&str, &str)>
-    ensures none { IfNone result ((listing rest : List ℕ) → chars text.now ≡ listing ++ 93 ∷ rest → IsListing true listing → ⊥) }
-    ensures some { IfSome result (λ p. (chars text.now ≡ chars p.0.now ++ 93 ∷ chars p.1.now) × IsListing true (chars p.0.now)) }
+    ensures none { IfNone result ((listing rest : List ℕ) → chars text.now ≡ listing ++ byte "]" ∷ rest → IsListing true listing → ⊥) }
+    ensures some { IfSome result (λ p. (chars text.now ≡ chars p.0.now ++ byte "]" ∷ chars p.1.now) × IsListing true (chars p.0.now)) }
 {
     let (_, mut rest) = split_first(text)?;
     'listed: while let Some((c, more)) = split_first(rest) {
@@ -71,8 +107,8 @@ fn listing(text: &str) -> Option<(&str, &str)>
 
 /// The same, where a closing brace follows the bracket too.
 fn closed_listing(text: &str) -> Option<(&str, &str)>
-    ensures none { IfNone result ((listing rest : List ℕ) → chars text.now ≡ listing ++ 93 ∷ 125 ∷ rest → IsListing true listing → ⊥) }
-    ensures some { IfSome result (λ p. (chars text.now ≡ chars p.0.now ++ 93 ∷ 125 ∷ chars p.1.now) × IsListing true (chars p.0.now)) }
+    ensures none { IfNone result ((listing rest : List ℕ) → chars text.now ≡ listing ++ (codes "]}" ++ rest) → IsListing true listing → ⊥) }
+    ensures some { IfSome result (λ p. (chars text.now ≡ chars p.0.now ++ (codes "]}" ++ chars p.1.now)) × IsListing true (chars p.0.now)) }
 {
     let (listing, rest) = listing(text)?;
     let rest = strip(rest, '}')?;
@@ -80,81 +116,91 @@ fn closed_listing(text: &str) -> Option<(&str, &str)>
 }
 
 /// The set that stands after an opening bracket, and what follows its closing brace.
-fn set(text: &str) -> Option<(Shape<'_>, &str)>
-    ensures none { IfNone result ((s : ShapeView) (n : Option ℕ) (rest : List ℕ) → Names s n (91 ∷ chars text.now) rest → ⊥) }
-    ensures some { IfSome result (λ p. (n : Option ℕ) → Names (shape_of p.0) n (91 ∷ chars text.now) (chars p.1.now)) }
+fn set(text: &str) -> Option<(Body<'_>, &str)>
+    ensures none { IfNone result ((s : Option ShapeView) (n : Option ℕ) (rest : List ℕ) → Names s n (byte "[" ∷ chars text.now) rest → ⊥) }
+    ensures some { IfSome result (λ p. (n : Option ℕ) → Names (body_of p.0) n (byte "[" ∷ chars text.now) (chars p.1.now)) }
 {
     match strip(text, '^') {
         Some(text) => {
             let (listing, rest) = closed_listing(text)?;
             let inverted = true;
-            Some((Shape::Set { inverted, listing }, rest))
+            Some((among(inverted, listing), rest))
         }
         None => {
             let (listing, rest) = closed_listing(text)?;
             let inverted = false;
-            Some((Shape::Set { inverted, listing }, rest))
+            Some((among(inverted, listing), rest))
         }
     }
 }
 
-/// The shape that a letter names.
-fn lettered(letter: char, limit: Option<usize>) -> Option<Shape<'static>>
-    requires { letter ≢ 91 }
-    ensures none { IfNone result ((s : ShapeView) (n : Option ℕ) (more rest : List ℕ) → Names s n (letter ∷ more) rest → ⊥) }
-    ensures some { IfSome result (λ s. (rest : List ℕ) → Names (shape_of s) limit (letter ∷ 125 ∷ rest) rest) }
+fn among(inverted: bool, listing: &str) -> Body<'_>
+    ensures { body_of result ≡ Some (Characters (Among inverted (chars listing.now))) }
 {
-    match letter {
-        's' => Some(Shape::Word),
-        'd' => Some(Shape::Decimal(limit)),
-        'x' => Some(Shape::Hexadecimal(limit)),
-        'f' => Some(Shape::Float(limit)),
-        'e' => Some(Shape::End),
-        _ => None,
-    }
+    Body::Takes(Shape::Characters(Run::Among { inverted, listing }))
 }
 
-/// The shape whose letter or set stands in front, and what follows its closing brace.
-fn named_shape(limit: Option<usize>, text: &str) -> Option<(Shape<'_>, &str)>
-    ensures none { IfNone result ((s : ShapeView) (rest : List ℕ) → Names s limit (chars text.now) rest → ⊥) }
-    ensures some { IfSome result (λ p. Names (shape_of p.0) limit (chars text.now) (chars p.1.now)) }
+/// What a letter names.
+fn lettered(letter: char, limit: Option<usize>) -> Option<Body<'static>>
+    requires { letter ≢ byte "[" }
+    ensures none { IfNone result ((s : Option ShapeView) (n : Option ℕ) (more rest : List ℕ) → Names s n (letter ∷ more) rest → ⊥) }
+    ensures some { IfSome result (λ s. (rest : List ℕ) → Names (body_of s) limit (letter ∷ byte "}" ∷ rest) rest) }
+{
+    let notation = match letter {
+        'd' => Notation::Decimal,
+        'x' => Notation::Hexadecimal,
+        'f' => Notation::Float,
+        's' => return Some(Body::Takes(Shape::Characters(Run::Solid))),
+        'e' => return Some(Body::Ends),
+        _ => return None,
+    };
+    Some(Body::Takes(Shape::Number { notation, limit }))
+}
+
+/// What the letter or the set in front names, and what follows its closing brace.
+fn named_body(limit: Option<usize>, text: &str) -> Option<(Body<'_>, &str)>
+    ensures none { IfNone result ((s : Option ShapeView) (rest : List ℕ) → Names s limit (chars text.now) rest → ⊥) }
+    ensures some { IfSome result (λ p. Names (body_of p.0) limit (chars text.now) (chars p.1.now)) }
 {
     let (letter, rest) = split_first(text)?;
     if letter == '[' {
         return set(rest);
     }
-    let shape = lettered(letter, limit)?;
+    let body = lettered(letter, limit)?;
     let rest = strip(rest, '}')?;
-    Some((shape, rest))
+    Some((body, rest))
 }
 
-/// The shape of a field, and what follows it.
-fn field_shape(text: &str) -> Option<(Shape<'_>, &str)>
-    ensures none { IfNone result ((s : ShapeView) (rest : List ℕ) → SpellsShape s (chars text.now) rest → ⊥) }
-    ensures some { IfSome result (λ p. SpellsShape (shape_of p.0) (chars text.now) (chars p.1.now)) }
+/// What stands after a field's star, and what follows its closing brace.
+fn field_body(text: &str) -> Option<(Body<'_>, &str)>
+    ensures none { IfNone result ((s : Option ShapeView) (rest : List ℕ) → SpellsBody s (chars text.now) rest → ⊥) }
+    ensures some { IfSome result (λ p. SpellsBody (body_of p.0) (chars text.now) (chars p.1.now)) }
 {
     if let Some(rest) = strip(text, '}') {
-        return Some((Shape::Run(first(rest)), rest));
+        return Some((
+            Body::Takes(Shape::Characters(Run::Until(first(rest)))),
+            rest,
+        ));
     }
     let (limit, name) = limit(text);
-    named_shape(limit, name)
+    named_body(limit, name)
 }
 
 /// The field that stands after an opening brace, and what follows it.
 fn field(text: &str) -> Option<(Directive<'_>, &str)>
-    ensures none { IfNone result ((stored : Bool) (s : ShapeView) (rest : List ℕ) → Spells (FieldView stored s) (123 ∷ chars text.now) rest → ⊥) }
-    ensures some { IfSome result (λ p. Spells (directive_of p.0) (123 ∷ chars text.now) (chars p.1.now)) }
+    ensures none { IfNone result ((stored : Bool) (s : Option ShapeView) (rest : List ℕ) → SpellsField stored s (chars text.now) rest → ⊥) }
+    ensures some { IfSome result (λ p. Spells (directive_of p.0) (byte "{" ∷ chars text.now) (chars p.1.now)) }
 {
     match strip(text, '*') {
         Some(text) => {
-            let (shape, rest) = field_shape(text)?;
+            let (body, rest) = field_body(text)?;
             let stored = false;
-            Some((Directive::Field { stored, shape }, rest))
+            Some((body.directive(stored), rest))
         }
         None => {
-            let (shape, rest) = field_shape(text)?;
+            let (body, rest) = field_body(text)?;
             let stored = true;
-            Some((Directive::Field { stored, shape }, rest))
+            Some((body.directive(stored), rest))
         }
     }
 }

@@ -1,22 +1,21 @@
 // What a directive takes from the front of an input.
-ghost use Rattle.std.specs.Prelude.{◌≡◌, ◌∷◌, ℕ, ◌<◌, List, length, take, MatchOption, IfNone, IfSome, IsTrue, ◌↔◌};
+ghost use Rattle.std.specs.Prelude.{◌≡◌, ◌∷◌, ℕ, ◌<◌, ◌≤◌, List, Option, length, take, drop, MatchOption, IfNone, IfSome, IsTrue, ◌↔◌};
 ghost use Rattle.std.specs.List.{AllByRecursion};
-ghost use Rattle.std.specs.Option.{option_map};
-ghost use Rattle.std.specs.Str.{chars};
+ghost use Rattle.std.specs.Str.{byte, chars};
 ghost use Rattle.std.specs.Str.Parse.{without_leading_plus};
-ghost use Rattle.scan_fmt.specs.Directives.{AtEnd};
-ghost use Rattle.scan_fmt.specs.Scanned.{IsLongest, Suits, MayTake, without_0x, token_of, Passes, Refuses};
-ghost use Rattle.scan_fmt.specs.Parts.{shape_of, directive_of};
+ghost use Rattle.scan_fmt.specs.Scanned.{IsLongest, IsNumber, Suits, MayTake, without_0x, token_text};
+ghost use Rattle.scan_fmt.specs.Directives.{Number, Field};
+ghost use Rattle.scan_fmt.specs.Inner.Parts.{run_of, notation_of, shape_of, directive_of, IsPass};
 ghost use Rattle.scan_fmt.specs.Sets.{is_in_ranges, is_listed};
 
-use crate::directive::{Directive, Shape};
+use crate::directive::{Directive, Notation, Run, Shape};
 use crate::number::{float_len, prefixed_len, signed_len};
 use crate::text::{before, is_blank, split_first, strip};
 
 /// The other end of a range, where a dash stands in front, and what follows it.
 fn range_end(text: &str) -> Option<(char, &str)>
-    ensures none { IfNone result ((z : ℕ) (rest : List ℕ) → chars text.now ≡ 45 ∷ z ∷ rest → ⊥) }
-    ensures some { IfSome result (λ p. chars text.now ≡ 45 ∷ p.0 ∷ chars p.1.now) }
+    ensures none { IfNone result ((z : ℕ) (rest : List ℕ) → chars text.now ≡ byte "-" ∷ z ∷ rest → ⊥) }
+    ensures some { IfSome result (λ p. chars text.now ≡ byte "-" ∷ p.0 ∷ chars p.1.now) }
     ensures shorter { IfSome result (λ p. length p.1.now < length text.now) }
 {
     split_first(strip(text, '-')?)
@@ -69,28 +68,31 @@ fn within(input: &str, limit: Option<usize>) -> &[u8]
     }
 }
 
-impl Shape<'_> {
-    fn is_end(&self) -> bool
-        ensures { IsTrue result ↔ (shape_of self.now ≡ AtEnd) }
-    {
-        matches!(self, Shape::End)
-    }
+/// What a directive does to the input in front of it.
+pub enum Pass<'i> {
+    /// The input doesn't fit.
+    Mismatch,
+    /// A front is passed; this is the rest.
+    Passed(&'i str),
+    /// A front is passed, and a token of it is stored.
+    Taken { token: &'i str, rest: &'i str },
+}
 
-    /// Whether the character may stand in a run of this shape.
+impl Run<'_> {
+    /// Whether the character may stand in such a run.
     fn suits(&self, c: char) -> bool
-        ensures { IsTrue result ↔ Suits (shape_of self.now) c }
+        ensures { IsTrue result ↔ Suits (run_of self.now) c }
     {
         match self {
-            Shape::Run(stop) => !is_blank(c) && *stop != Some(c),
-            Shape::Word => !is_blank(c),
-            Shape::Set { inverted, listing } => is_listed(listing, c) != *inverted,
-            _ => false,
+            Run::Until(stop) => !is_blank(c) && *stop != Some(c),
+            Run::Solid => !is_blank(c),
+            Run::Among { inverted, listing } => is_listed(listing, c) != *inverted,
         }
     }
 
     /// The longest run in front, and the rest.
-    fn split_run<'i>(&self, input: &'i str) -> (&'i str, &'i str)
-        ensures { IsLongest (AllByRecursion (Suits (shape_of self.now))) (chars input.now) (chars result.0.now) (chars result.1.now) }
+    fn split<'i>(&self, input: &'i str) -> (&'i str, &'i str)
+        ensures { IsLongest (AllByRecursion (Suits (run_of self.now))) (chars input.now) (chars result.0.now) (chars result.1.now) }
     {
         let mut rest = input;
         'run: while let Some((c, more)) = split_first(rest) {
@@ -101,37 +103,36 @@ impl Shape<'_> {
         }
         (before(input, rest), rest)
     }
+}
 
-    /// What a field of this shape takes from the front of the input, and the rest.
-    fn split<'i>(&self, input: &'i str) -> (&'i str, &'i str)
-        ensures { IsLongest (MayTake (shape_of self.now)) (chars input.now) (chars result.0.now) (chars result.1.now) }
+impl Notation {
+    /// How long the longest such number in front is.
+    fn reach(self, bytes: &[u8]) -> usize
+        ensures within { result ≤ length bytes.now }
+        ensures longest { IsLongest (IsNumber (notation_of self)) bytes.now (take result bytes.now) (drop result bytes.now) }
     {
         match self {
-            Shape::Decimal(limit) => {
-                let end = signed_len(within(input, *limit));
-                input.split_at(end)
-            }
-            Shape::Hexadecimal(limit) => {
-                let end = prefixed_len(within(input, *limit));
-                input.split_at(end)
-            }
-            Shape::Float(limit) => {
-                let end = float_len(within(input, *limit));
-                input.split_at(end)
-            }
-            _ => self.split_run(input),
+            Notation::Decimal => signed_len(bytes),
+            Notation::Hexadecimal => prefixed_len(bytes),
+            Notation::Float => float_len(bytes),
         }
     }
 
-    /// The token of what was taken.
-    fn token<'i>(&self, taken: &'i str) -> &'i str
-        ensures { chars result.now ≡ token_of (shape_of self.now) (chars taken.now) }
+    /// The longest such number in front within the limit, and the rest.
+    fn split(self, limit: Option<usize>, input: &str) -> (&str, &str)
+        ensures { IsLongest (MayTake (Number (notation_of self) limit)) (chars input.now) (chars result.0.now) (chars result.1.now) }
+    {
+        input.split_at(self.reach(within(input, limit)))
+    }
+
+    /// The token's text, of what was taken.
+    fn token(self, taken: &str) -> &str
+        ensures { (limit : Option ℕ) → chars result.now ≡ token_text (Number (notation_of self) limit) (chars taken.now) }
     {
         match self {
-            Shape::Decimal(_) => without_plus(taken),
-            Shape::Float(_) => without_plus(taken),
-            Shape::Hexadecimal(_) => without_0x(taken),
-            _ => taken,
+            Notation::Decimal => without_plus(taken),
+            Notation::Hexadecimal => without_0x(taken),
+            Notation::Float => without_plus(taken),
         }
     }
 }
@@ -157,29 +158,53 @@ fn without_0x(taken: &str) -> &str
     }
 }
 
-impl Directive<'_> {
-    /// What the directive takes from the front of the input: its token, if it stores one, and the rest. None where the input
-    /// doesn't fit.
-    pub fn pass<'i>(&self, input: &'i str) -> Option<(Option<&'i str>, &'i str)>
-        ensures none { IfNone result (Refuses (directive_of self.now) (chars input.now)) }
-        ensures some { IfSome result (λ p. Passes (directive_of self.now) (chars input.now) (option_map (λ t. chars t.now) p.0) (chars p.1.now)) }
+impl Shape<'_> {
+    /// What a field of this shape takes from the front of the input, and the rest.
+    fn split<'i>(&self, input: &'i str) -> (&'i str, &'i str)
+        ensures { IsLongest (MayTake (shape_of self.now)) (chars input.now) (chars result.0.now) (chars result.1.now) }
     {
         match self {
-            Directive::Literal(c) => {
-                let rest = strip(input, *c)?;
-                Some((None, rest))
-            }
-            Directive::Field { stored, shape } => {
-                if shape.is_end() {
-                    return None;
-                }
-                let (taken, rest) = shape.split(input);
-                if *stored {
-                    Some((Some(shape.token(taken)), rest))
-                } else {
-                    Some((None, rest))
-                }
-            }
+            Shape::Characters(run) => run.split(input),
+            Shape::Number { notation, limit } => notation.split(*limit, input),
+        }
+    }
+
+    /// The token's text, of what was taken.
+    fn token<'i>(&self, taken: &'i str) -> &'i str
+        ensures { chars result.now ≡ token_text (shape_of self.now) (chars taken.now) }
+    {
+        match self {
+            Shape::Characters(_) => taken,
+            Shape::Number { notation, .. } => notation.token(taken),
+        }
+    }
+
+    /// A field of this shape over the input.
+    fn pass<'i>(&self, stored: bool, input: &'i str) -> Pass<'i>
+        ensures { IsPass (Field stored (shape_of self.now)) (chars input.now) result }
+    {
+        let (taken, rest) = self.split(input);
+        if stored {
+            let token = self.token(taken);
+            Pass::Taken { token, rest }
+        } else {
+            Pass::Passed(rest)
+        }
+    }
+}
+
+impl Directive<'_> {
+    /// What the directive does to the input, whose white space in front is passed.
+    pub fn pass<'i>(&self, input: &'i str) -> Pass<'i>
+        ensures { IsPass (directive_of self.now) (chars input.now) result }
+    {
+        match self {
+            Directive::Literal(c) => match strip(input, *c) {
+                Some(rest) => Pass::Passed(rest),
+                None => Pass::Mismatch,
+            },
+            Directive::Field { stored, shape } => shape.pass(*stored, input),
+            Directive::End => Pass::Mismatch,
         }
     }
 }

@@ -6,6 +6,4 @@ mod field;
 mod number;
 pub mod parse;
 mod read;
-#[cfg(test)]
-mod tests;
 mod text;

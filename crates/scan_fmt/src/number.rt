@@ -1,6 +1,7 @@
 // How far a number reaches, in the bytes that a field may take.
 ghost use Rattle.std.specs.Prelude.{◌≡◌, ◌<◌, ◌≤◌, ◌+◌, length, take, drop, IsTrue, ◌↔◌, Some};
 ghost use Rattle.std.specs.Char.{digit_value};
+ghost use Rattle.std.specs.Str.{byte};
 ghost use Rattle.std.specs.Str.Parse.{AllDigits};
 ghost use Rattle.scan_fmt.specs.Directives.{first};
 ghost use Rattle.scan_fmt.specs.Scanned.{IsLongest, Optionally, IsSigned, IsPrefixed, IsFloat, begins_0x};
@@ -70,7 +71,7 @@ pub fn prefixed_len(bytes: &[u8]) -> usize
 
 fn fraction_len(bytes: &[u8]) -> usize
     ensures within { result ≤ length bytes.now }
-    ensures longest { IsLongest (Optionally 46 (AllDigits 10)) bytes.now (take result bytes.now) (drop result bytes.now) }
+    ensures longest { IsLongest (Optionally (byte ".") (AllDigits 10)) bytes.now (take result bytes.now) (drop result bytes.now) }
 {
     if begins(bytes, b'.') {
         1 + digits_len(&bytes[1..], 10)
@@ -81,7 +82,7 @@ fn fraction_len(bytes: &[u8]) -> usize
 
 fn exponent_len(bytes: &[u8]) -> usize
     ensures within { result ≤ length bytes.now }
-    ensures longest { IsLongest (Optionally 101 IsSigned) bytes.now (take result bytes.now) (drop result bytes.now) }
+    ensures longest { IsLongest (Optionally (byte "e") IsSigned) bytes.now (take result bytes.now) (drop result bytes.now) }
 {
     if begins(bytes, b'e') {
         1 + signed_len(&bytes[1..])

@@ -1,18 +1,20 @@
 // The scan, its tokens, and typed readings of them.
 ghost use Rattle.std.specs.Prelude.{◌≡◌, ◌++◌, ◌∷◌, [], ℕ, List, length, map, OnOk, IfOk, string_bytes, Some, codes};
 ghost use Rattle.std.specs.Iterator.{YieldsFirst, at_most};
-ghost use Rattle.std.specs.Option.{option_map};
 ghost use Rattle.std.specs.Str.{chars};
-ghost use Rattle.scan_fmt.specs.Scanned.{Scanned, OneAnswer, SomeAnswer, with_token};
+ghost use Rattle.scan_fmt.specs.Scanned.{ScannedTexts, OneAnswer, SomeAnswer};
+ghost use Rattle.scan_fmt.specs.Inner.Parts.{directive_of, TakesTexts};
 ghost use Rattle.scan_fmt.specs.Tokens.{tokens_left, texts_left, ReadsNext};
 
-use crate::directive::next_directive;
+use crate::directive::{Directive, next_directive};
+use crate::field::Pass;
 pub use crate::read::{ReadHex, ReadToken};
 use crate::text::skip_blanks;
 use numerals::NoMemory;
 use std::alloc::Global;
 use std::error::Error;
 use std::fmt;
+use std::marker::Model;
 use std::vec::IntoIter;
 
 /// The tokens of a scan, in order.
@@ -92,14 +94,10 @@ impl Tokens {
     }
 }
 
-/// One token more, if there is one.
-fn push_token(alloc: Global, tokens: &mut Vec<String>, token: Option<&str>) -> Result<(), NoMemory>
-    ensures { OnOk result ((rest : List (List ℕ)) → map chars (map string_bytes tokens.new.items) ++ rest
-        ≡ map chars (map string_bytes tokens.old.items) ++ with_token (option_map (λ t. chars t.now) token.entry) rest) }
+/// One token more.
+fn push_token(alloc: Global, tokens: &mut Vec<String>, token: &str) -> Result<(), NoMemory>
+    ensures { OnOk result (map chars (map string_bytes tokens.new.items) ≡ map chars (map string_bytes tokens.old.items) ++ chars token.now ∷ []) }
 {
-    let Some(token) = token else {
-        return Ok(());
-    };
     let Ok(text) = String::from_str(alloc, token) else {
         return Err(NoMemory);
     };
@@ -110,39 +108,96 @@ fn push_token(alloc: Global, tokens: &mut Vec<String>, token: Option<&str>) -> R
 }
 
 /// The answer where the input doesn't fit: one empty token.
-fn mismatch(alloc: Global) -> Result<Tokens, NoMemory>
-    ensures { IfOk result (λ t. map chars (texts_left t) ≡ [] ∷ []) }
+fn mismatch(alloc: Global) -> Result<Vec<String>, NoMemory>
+    ensures { IfOk result (λ tokens. map chars (map string_bytes tokens.items) ≡ [] ∷ []) }
 {
     let mut tokens = Vec::new(alloc);
     if tokens.push(String::new(alloc)).is_err() {
         return Err(NoMemory);
     }
-    let tokens = tokens.into_iter();
-    Ok(Tokens { tokens })
+    Ok(tokens)
+}
+
+/// The tokens that the directives take from the input.
+fn take_tokens(
+    alloc: Global,
+    directives: &[Directive<'_>],
+    input: &str,
+) -> Result<Vec<String>, NoMemory>
+    ensures { IfOk result (λ tokens. TakesTexts (map directive_of directives.now) (chars input.now) (map chars (map string_bytes tokens.items))) }
+{
+    let mut tokens = Vec::new(alloc);
+    let mut rest = input;
+    'directives: for directive in directives {
+        let here = skip_blanks(rest);
+        if here.is_empty() {
+            return Ok(tokens);
+        }
+        match directive.pass(here) {
+            Pass::Mismatch => return mismatch(alloc),
+            Pass::Passed(left) => rest = left,
+            Pass::Taken { token, rest: left } => {
+                push_token(alloc, &mut tokens, token)?;
+                rest = left;
+            }
+        }
+    }
+    Ok(tokens)
+}
+
+/// A format that is cut once, for the scans of many inputs.
+#[derive(Drop)]
+pub struct Format<'f> {
+    text: &'f str,
+    directives: Vec<Directive<'f>>,
+}
+
+impl<'f> Model for Format<'f> {
+    ghost use Rattle.std.specs.Prelude.{ℕ, List, map};
+    ghost use Rattle.std.specs.Str.{chars};
+    ghost use Rattle.scan_fmt.specs.Directives.{Cuts};
+    ghost use Rattle.scan_fmt.specs.Inner.Parts.{directive_of};
+
+    ghost Value = { List ℕ };
+
+    ghost view = { λ f. chars f.text.now };
+
+    ghost invariant = { λ f. Cuts (chars f.text.now) (map directive_of f.directives.items) };
+}
+
+impl<'f> Format<'f> {
+    /// Cuts the format into its directives, up to its end or to the first field that is malformed.
+    pub fn new(alloc: Global, format: &'f str) -> Result<Format<'f>, NoMemory>
+        ensures { IfOk result (λ f. f ≡ chars format.now) }
+    {
+        let mut directives = Vec::new(alloc);
+        let mut rest = format;
+        'cut: while let Some((directive, more)) = next_directive(rest) {
+            if directives.push(directive).is_err() {
+                return Err(NoMemory);
+            }
+            rest = more;
+        }
+        let text = format;
+        Ok(Format { text, directives })
+    }
+
+    /// The tokens that the format takes from the input.
+    pub fn scan(&self, alloc: Global, input: &str) -> Result<Tokens, NoMemory>
+        ensures { IfOk result (λ t. ScannedTexts (chars input.now) self.now (map chars (texts_left t))) }
+    {
+        let tokens = take_tokens(alloc, self.directives.as_slice(), input)?;
+        let tokens = tokens.into_iter();
+        Ok(Tokens { tokens })
+    }
 }
 
 /// The tokens that the format takes from the input.
 pub fn scan(alloc: Global, input: &str, format: &str) -> Result<Tokens, NoMemory>
-    ensures { IfOk result (λ t. Scanned (chars input.now) (chars format.now) (map chars (texts_left t))) }
+    ensures { IfOk result (λ t. ScannedTexts (chars input.now) (chars format.now) (map chars (texts_left t))) }
 {
-    let mut tokens = Vec::new(alloc);
-    let mut input = input;
-    let mut format = format;
-    'directives: while let Some((directive, rest)) = next_directive(format) {
-        let here = skip_blanks(input);
-        if here.is_empty() {
-            let tokens = tokens.into_iter();
-            return Ok(Tokens { tokens });
-        }
-        let Some((token, left)) = directive.pass(here) else {
-            return mismatch(alloc);
-        };
-        push_token(alloc, &mut tokens, token)?;
-        input = left;
-        format = rest;
-    }
-    let tokens = tokens.into_iter();
-    Ok(Tokens { tokens })
+    let format = Format::new(alloc, format)?;
+    format.scan(alloc, input)
 }
 
 /// Over one input, one format gives one list of tokens.

@@ -1,6 +1,9 @@
 -- A field has at least its width.
-use Rattle.std.proofs.Common.{◌≡◌, ℕ, ◌+◌, ◌-◌, ◌≤◌, Bool, true, false, cond, ◌||◌, ℤ, pos, negsuc, List, [], ◌++◌, length, replicate, nat_lt, Option, Some, None, Result, Ok, Err, encode_utf8, subst, arith, length-append}
-use Rattle.std.proofs.lemmas.List.{length-replicate}
+use Rattle.std.proofs.Common.{◌≡◌, ℕ, zero, suc, ◌+◌, ◌-◌, ◌≤◌, Bool, true, false, cond, ℤ, pos, negsuc, List, [], ◌++◌, length, nat_lt, Option, Some, None, Result, Ok, Err, encode_utf8, unsigned_abs, subst, refl, arith, length-append}
+use Rattle.std.specs.Int.{Width, w8, w16, w32, w64, cast_unsigned}
+use Rattle.std.proofs.Math.Utf8.{scalar}
+use Rattle.std.proofs.lemmas.Str.{length-encode}
+use Rattle.padding.specs.Field.{fills}
 use Rattle.sprintf.specs.declared.PrintfError.{PrintfError}
 use Rattle.sprintf.specs.declared.PrintfError.TheVariants.{WrongType}
 use Rattle.sprintf.specs.declared.arg.Arg.{Arg}
@@ -9,57 +12,59 @@ use Rattle.sprintf.specs.declared.parser.ConversionSpecifier.{ConversionSpecifie
 use Rattle.sprintf.specs.declared.parser.ConversionType.{ConversionType}
 use Rattle.sprintf.specs.declared.parser.ConversionType.TheVariants.{DecInt, OctInt, HexIntLower, HexIntUpper, Char as CharConversion, String as StringConversion}
 use Rattle.sprintf.specs.declared.parser.NumericParam.TheVariants.{Literal}
-use Rattle.sprintf.specs.Field.{Parts, text_of, zeros_of, number_parts, word_parts, number_of, with_number, number_text, unsigned_text, signed_text, character_text, word_text, prefix_of, digits_of, sign_of, written_of, cut_to}
+use Rattle.sprintf.specs.Field.{filled_number, filled_word, number_of, with_number, number_text, unsigned_text, signed_text, character_text, word_text, prefix_of, digits_of, sign_of, cut_to}
 use Rattle.sprintf.specs.Meaning.{by_conversion}
-use Rattle.sprintf.specs.Carried.{arg_meaning, character_where, signed_character, is_character}
+use Rattle.sprintf.specs.Carried.{arg_meaning, character_where, signed_character}
 use Rattle.sprintf.specs.Laws.{FillsItsWidth}
 
 ok_is : {a b : List ℕ} → ◌≡◌ {A = Result (List ℕ) PrintfError} (Ok a) (Ok b) → a ≡ b
 ok_is e = cc
 
--- the parts' lengths, added up
-text_len : (p : Parts) → length (text_of p) ≡ p.lead + (length p.token + p.trail)
-text_len p = omega (arith, length-append (replicate p.lead 32 ++ p.token) (replicate p.trail 32), length-append (replicate p.lead 32) p.token, length-replicate {A = ℕ} p.lead, length-replicate {A = ℕ} p.trail)
+-- one character of one byte, so many times
+length-fills : (count c : ℕ) → length (encode_utf8 c) ≡ 1 → length (fills count c) ≡ count
+length-fills zero c e = refl
+length-fills (suc count) c e = omega (arith, length-append (encode_utf8 c) (fills count c), e, length-fills count c e)
 
-filled_by : (left zero_pad : Bool) (room : ℕ) → cond (left || zero_pad) 0 room + (cond left 0 (cond zero_pad room 0) + cond left room 0) ≡ room
-filled_by true z room = omega arith
-filled_by false true room = omega arith
-filled_by false false room = omega arith
+three_len : (a b c : List ℕ) → length (a ++ b ++ c) ≡ length a + length b + length c
+three_len a b c = omega (arith, length-append (a ++ b) c, length-append a b)
 
-token_len : (sign prefix fill digits : List ℕ) → length (sign ++ prefix ++ fill ++ digits) ≡ length sign + (length prefix + (length fill + length digits))
-token_len sign prefix fill digits = omega (arith, length-append (sign ++ prefix ++ fill) digits, length-append (sign ++ prefix) fill, length-append sign prefix)
+number_by : (left zero_pad : Bool) (room : ℕ) (lead digits : List ℕ) → length (cond left (lead ++ digits ++ fills room 32) (cond zero_pad (lead ++ fills room 48 ++ digits) (fills room 32 ++ lead ++ digits))) ≡ length lead + length digits + room
+number_by true z room lead digits = omega (arith, three_len lead digits (fills room 32), length-fills room 32 (length-encode 32))
+number_by false true room lead digits = omega (arith, three_len lead (fills room 48) digits, length-fills room 48 (length-encode 48))
+number_by false false room lead digits = omega (arith, three_len (fills room 32) lead digits, length-fills room 32 (length-encode 32))
 
-number_len : (f : ConversionSpecifier) (width : ℕ) (sign prefix digits : List ℕ) → width ≤ length (text_of (number_parts f width sign prefix digits))
-number_len f width sign prefix digits =
-    let room : ℕ = width - (length sign + length prefix + length digits) in
-    let parts : Parts = number_parts f width sign prefix digits in
-    let whole = text_len parts in
-    let token = token_len sign prefix (replicate (zeros_of f room) 48) digits in
-    let fill = length-replicate {A = ℕ} (zeros_of f room) 48 in
-    let sum = filled_by f.left_adj f.zero_pad room in
-    omega (arith, whole, token, fill, sum)
+number_len : (f : ConversionSpecifier) (width : ℕ) (lead digits : List ℕ) → width ≤ length (filled_number f (width - (length lead + length digits)) lead digits)
+number_len f width lead digits = omega (arith, number_by f.left_adj f.zero_pad (width - (length lead + length digits)) lead digits)
 
-word_by : (left : Bool) (room : ℕ) → cond left 0 room + cond left room 0 ≡ room
-word_by true room = omega arith
-word_by false room = omega arith
+word_by : (left : Bool) (room : ℕ) (word : List ℕ) → length (cond left (word ++ fills room 32) (fills room 32 ++ word)) ≡ length word + room
+word_by true room word = omega (arith, length-append word (fills room 32), length-fills room 32 (length-encode 32))
+word_by false room word = omega (arith, length-append (fills room 32) word, length-fills room 32 (length-encode 32))
 
-word_len : (f : ConversionSpecifier) (width : ℕ) (word : List ℕ) → width ≤ length (text_of (word_parts f width word))
-word_len f width word = omega (arith, text_len (word_parts f width word), word_by f.left_adj (width - length word))
+word_len : (f : ConversionSpecifier) (width : ℕ) (word : List ℕ) → width ≤ length (filled_word f (width - length word) word)
+word_len f width word = omega (arith, word_by f.left_adj (width - length word) word)
 
 -- ---- under a width that is a number
 
 module _ (f : ConversionSpecifier) (width : ℕ) (text : List ℕ) (is_width : f.width ≡ Literal (pos width)) where
-  number_fills : (sign : List ℕ) (n : ℕ) → number_text f sign n ≡ Ok text → width ≤ length text
-  number_fills sign n e =
-      let t = f.conversion_type in
-      let prefix : List ℕ = cond f.alt_form (prefix_of t) [] in
-      let written : text_of (number_parts f width sign prefix (digits_of t n)) ≡ text = ok_is (rw is_width at e) in
-      subst (λ t. width ≤ length t) written (number_len f width sign prefix (digits_of t n))
+  number_fills : (lead : List ℕ) (n : ℕ) → number_text f lead n ≡ Ok text → width ≤ length text
+  number_fills lead n e =
+      let digits = digits_of f.conversion_type n in
+      let written : filled_number f (width - (length lead + length digits)) lead digits ≡ text = ok_is (rw is_width at e) in
+      subst (λ t. width ≤ length t) written (number_len f width lead digits)
+
+  unsigned_fills : (n : ℕ) → unsigned_text f n ≡ Ok text → width ≤ length text
+  unsigned_fills n e = number_fills (cond f.alt_form (prefix_of f.conversion_type) []) n e
+
+  signed_by : (t : ConversionType) (z : ℤ) (complement : ℕ) → signed_text t f z complement ≡ Ok text → width ≤ length text
+  signed_by DecInt z complement e = number_fills (sign_of f z) (unsigned_abs z) e
+  signed_by _ z complement e = unsigned_fills complement e
 
   character_fills : (c : ℕ) → character_text f c ≡ Ok text → width ≤ length text
-  character_fills c e = let written : text_of (word_parts f width (encode_utf8 c)) ≡ text = ok_is (rw is_width at e) in subst (λ t. width ≤ length t) written (word_len f width (encode_utf8 c))
+  character_fills c e =
+      let written : filled_word f (width - length (encode_utf8 c)) (encode_utf8 c) ≡ text = ok_is (rw is_width at e) in
+      subst (λ t. width ≤ length t) written (word_len f width (encode_utf8 c))
 
-  word_fills_by : (o : Option ℕ) (word : List ℕ) → with_number o (λ precision. Ok (text_of (word_parts f width (cut_to precision word)))) ≡ Ok text → width ≤ length text
+  word_fills_by : (o : Option ℕ) (word : List ℕ) → with_number o (λ precision. Ok (filled_word f (width - length (cut_to precision word)) (cut_to precision word))) ≡ Ok text → width ≤ length text
   word_fills_by None word e = cc
   word_fills_by (Some precision) word e = subst (λ t. width ≤ length t) (ok_is e) (word_len f width (cut_to precision word))
 
@@ -70,9 +75,9 @@ module _ (f : ConversionSpecifier) (width : ℕ) (text : List ℕ) (is_width : f
   where_fills true c e = character_fills c e
   where_fills false c e = cc
 
-  signed_fills : (z : ℤ) → signed_character f z ≡ Ok text → width ≤ length text
-  signed_fills (pos c) e = character_fills c e
-  signed_fills (negsuc n) e = cc
+  i8_fills : (z : ℤ) → signed_character f z ≡ Ok text → width ≤ length text
+  i8_fills (pos c) e = character_fills c e
+  i8_fills (negsuc n) e = cc
 
   refused : ◌≡◌ {A = Result (List ℕ) PrintfError} (Err WrongType) (Ok text) → width ≤ length text
   refused e = cc
@@ -88,27 +93,27 @@ module _ (f : ConversionSpecifier) (width : ℕ) (text : List ℕ) (is_width : f
   by_answer _ d c w x y z e = cc
 
   unsigned_only : (n : ℕ) → by_conversion f.conversion_type (unsigned_text f n) (Err WrongType) (Err WrongType) ≡ Ok text → width ≤ length text
-  unsigned_only n e = by_answer f.conversion_type (unsigned_text f n) (Err WrongType) (Err WrongType) (number_fills [] n) refused refused e
+  unsigned_only n e = by_answer f.conversion_type (unsigned_text f n) (Err WrongType) (Err WrongType) (unsigned_fills n) refused refused e
 
   code_fills : (has : Bool) (n : ℕ) → by_conversion f.conversion_type (unsigned_text f n) (character_where has f n) (Err WrongType) ≡ Ok text → width ≤ length text
-  code_fills has n e = by_answer f.conversion_type (unsigned_text f n) (character_where has f n) (Err WrongType) (number_fills [] n) (where_fills has n) refused e
+  code_fills has n e = by_answer f.conversion_type (unsigned_text f n) (character_where has f n) (Err WrongType) (unsigned_fills n) (where_fills has n) refused e
 
-  signed_only : (bits : ℕ) (z : ℤ) → by_conversion f.conversion_type (signed_text bits f z) (Err WrongType) (Err WrongType) ≡ Ok text → width ≤ length text
-  signed_only bits z e = by_answer f.conversion_type (signed_text bits f z) (Err WrongType) (Err WrongType) (number_fills (sign_of f.conversion_type f z) (written_of f.conversion_type bits z)) refused refused e
+  signed_only : (w : Width) (z : ℤ) → by_conversion f.conversion_type (signed_text f.conversion_type f z (cast_unsigned w z)) (Err WrongType) (Err WrongType) ≡ Ok text → width ≤ length text
+  signed_only w z e = by_answer f.conversion_type (signed_text f.conversion_type f z (cast_unsigned w z)) (Err WrongType) (Err WrongType) (signed_by f.conversion_type z (cast_unsigned w z)) refused refused e
 
-  fills : (value : Arg) → (arg_meaning value).text f ≡ Ok text → width ≤ length text
-  fills (U8 n) e = code_fills (nat_lt n 128) n e
-  fills (U16 n) e = code_fills (is_character n) n e
-  fills (U32 n) e = code_fills (is_character n) n e
-  fills (U64 n) e = unsigned_only n e
-  fills (Usize n) e = unsigned_only n e
-  fills (I8 z) e = by_answer f.conversion_type (signed_text 8 f z) (signed_character f z) (Err WrongType) (number_fills (sign_of f.conversion_type f z) (written_of f.conversion_type 8 z)) (signed_fills z) refused e
-  fills (I16 z) e = signed_only 16 z e
-  fills (I32 z) e = signed_only 32 z e
-  fills (I64 z) e = signed_only 64 z e
-  fills (Isize z) e = signed_only 64 z e
-  fills (Char c) e = by_answer f.conversion_type (Err WrongType) (character_text f c) (Err WrongType) refused (character_fills c) refused e
-  fills (Str s) e = by_answer f.conversion_type (Err WrongType) (Err WrongType) (word_text f s.now) refused refused (word_fills s.now) e
+  value_fills : (value : Arg) → (arg_meaning value).text f ≡ Ok text → width ≤ length text
+  value_fills (U8 n) e = code_fills (nat_lt n 128) n e
+  value_fills (U16 n) e = code_fills (scalar n) n e
+  value_fills (U32 n) e = code_fills (scalar n) n e
+  value_fills (U64 n) e = unsigned_only n e
+  value_fills (Usize n) e = unsigned_only n e
+  value_fills (I8 z) e = by_answer f.conversion_type (signed_text f.conversion_type f z (cast_unsigned w8 z)) (signed_character f z) (Err WrongType) (signed_by f.conversion_type z (cast_unsigned w8 z)) (i8_fills z) refused e
+  value_fills (I16 z) e = signed_only w16 z e
+  value_fills (I32 z) e = signed_only w32 z e
+  value_fills (I64 z) e = signed_only w64 z e
+  value_fills (Isize z) e = signed_only w64 z e
+  value_fills (Char c) e = by_answer f.conversion_type (Err WrongType) (character_text f c) (Err WrongType) refused (character_fills c) refused e
+  value_fills (Str s) e = by_answer f.conversion_type (Err WrongType) (Err WrongType) (word_text f s.now) refused refused (word_fills s.now) e
 
 pub fills_its_width : FillsItsWidth
-fills_its_width value f width text e h = fills f width text e value h
+fills_its_width value f width text e h = value_fills f width text e value h

@@ -4,6 +4,7 @@ pub mod Letters
 pub mod Complete
 pub mod Sound
 pub mod Formats
-pub mod FieldText
+pub mod Cut
 pub mod Uniqueness
 pub mod Filled
+pub mod ValueFaults

@@ -1,5 +1,7 @@
 -- What the values of each carried type are to a format: which conversions they take, and with what text.
-use Rattle.std.specs.Prelude.{◌≡◌, ℕ, ℤ, pos, negsuc, Bool, true, if◌then◌else◌, ◌&&◌, nat_lt, nat_le, List, Option, Some, None, Result, Err}
+use Rattle.std.specs.Prelude.{◌≡◌, ℕ, ◌^◌, ℤ, pos, negsuc, Bool, true, if◌then◌else◌, nat_lt, List, Option, Some, None, Result, Err}
+use Rattle.std.specs.Int.{Width, w8, w16, w32, w64, cast_unsigned}
+use Rattle.std.proofs.Math.Utf8.{scalar}
 use Rattle.sprintf.specs.declared.PrintfError.{PrintfError}
 use Rattle.sprintf.specs.declared.PrintfError.TheVariants.{WrongType}
 use Rattle.sprintf.specs.declared.arg.Arg.{Arg}
@@ -12,10 +14,6 @@ use Rattle.sprintf.specs.Meaning.{Meaning, by_conversion}
 abbrev pub as_i32 : ℤ → Option ℤ
 as_i32 (pos n) = if nat_lt n 2147483648 then Some (pos n) else None
 as_i32 (negsuc n) = if nat_lt n 2147483648 then Some (negsuc n) else None
-
--- the code is that of a character: at most 0x10FFFF, and no surrogate
-abbrev pub is_character : ℕ → Bool
-is_character c = if nat_lt c 0xD800 then true else nat_le 0xE000 c && nat_lt c 0x11_0000
 
 -- `%c` of a number that has a character, and of one that has none
 abbrev pub character_where : Bool → ConversionSpecifier → ℕ → Result (List ℕ) PrintfError
@@ -32,18 +30,18 @@ u8_meaning n = record { text = λ f. by_conversion f.conversion_type (unsigned_t
 
 -- u16 and u32
 abbrev pub code_meaning : ℕ → Meaning
-code_meaning n = record { text = λ f. by_conversion f.conversion_type (unsigned_text f n) (character_where (is_character n) f n) (Err WrongType); int = as_i32 (pos n) }
+code_meaning n = record { text = λ f. by_conversion f.conversion_type (unsigned_text f n) (character_where (scalar n) f n) (Err WrongType); int = as_i32 (pos n) }
 
 -- u64 and usize
 abbrev pub unsigned_meaning : ℕ → Meaning
 unsigned_meaning n = record { text = λ f. by_conversion f.conversion_type (unsigned_text f n) (Err WrongType) (Err WrongType); int = as_i32 (pos n) }
 
 abbrev pub i8_meaning : ℤ → Meaning
-i8_meaning z = record { text = λ f. by_conversion f.conversion_type (signed_text 8 f z) (signed_character f z) (Err WrongType); int = as_i32 z }
+i8_meaning z = record { text = λ f. by_conversion f.conversion_type (signed_text f.conversion_type f z (cast_unsigned w8 z)) (signed_character f z) (Err WrongType); int = as_i32 z }
 
--- the other signed types, by their bits
-abbrev pub signed_meaning : ℕ → ℤ → Meaning
-signed_meaning bits z = record { text = λ f. by_conversion f.conversion_type (signed_text bits f z) (Err WrongType) (Err WrongType); int = as_i32 z }
+-- the other signed types, by their width
+abbrev pub signed_meaning : Width → ℤ → Meaning
+signed_meaning w z = record { text = λ f. by_conversion f.conversion_type (signed_text f.conversion_type f z (cast_unsigned w z)) (Err WrongType) (Err WrongType); int = as_i32 z }
 
 abbrev pub char_meaning : ℕ → Meaning
 char_meaning c = record { text = λ f. by_conversion f.conversion_type (Err WrongType) (character_text f c) (Err WrongType); int = None }
@@ -60,10 +58,10 @@ arg_meaning (U32 n) = code_meaning n
 arg_meaning (U64 n) = unsigned_meaning n
 arg_meaning (Usize n) = unsigned_meaning n
 arg_meaning (I8 z) = i8_meaning z
-arg_meaning (I16 z) = signed_meaning 16 z
-arg_meaning (I32 z) = signed_meaning 32 z
-arg_meaning (I64 z) = signed_meaning 64 z
-arg_meaning (Isize z) = signed_meaning 64 z
+arg_meaning (I16 z) = signed_meaning w16 z
+arg_meaning (I32 z) = signed_meaning w32 z
+arg_meaning (I64 z) = signed_meaning w64 z
+arg_meaning (Isize z) = signed_meaning w64 z
 arg_meaning (Char c) = char_meaning c
 arg_meaning (Str s) = word_meaning s.now
 

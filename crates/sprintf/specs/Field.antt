@@ -1,7 +1,9 @@
--- The text of a field by its parts: spaces in front, a token, and spaces behind. Widths and precisions count bytes.
-use Rattle.std.specs.Prelude.{ℕ, ◌+◌, ◌-◌, ◌^◌, ◌||◌, min, ℤ, pos, negsuc, true, false, if◌then◌else◌, List, [], ◌++◌, length, replicate, take, codes, unsigned_abs, encode_utf8, Option, Some, None, Result, Ok, Err}
+-- The text of a field. Widths and precisions count bytes.
+use Rattle.std.specs.Prelude.{ℕ, ◌+◌, ◌-◌, min, ℤ, pos, negsuc, true, false, if◌then◌else◌, List, [], ◌++◌, length, take, codes, unsigned_abs, encode_utf8, Option, Some, None, Result, Ok, Err}
 use Rattle.std.specs.Fmt.Cut.{floor_char_boundary}
+use Rattle.std.specs.Str.{byte}
 use Rattle.numerals.specs.Numeral.{numeral}
+use Rattle.padding.specs.Field.{fills}
 use Rattle.sprintf.specs.declared.PrintfError.{PrintfError}
 use Rattle.sprintf.specs.declared.PrintfError.TheVariants.{Unknown}
 use Rattle.sprintf.specs.declared.parser.ConversionSpecifier.{ConversionSpecifier}
@@ -10,34 +12,18 @@ use Rattle.sprintf.specs.declared.parser.ConversionType.TheVariants.{DecInt, Oct
 use Rattle.sprintf.specs.declared.parser.NumericParam.{NumericParam}
 use Rattle.sprintf.specs.declared.parser.NumericParam.TheVariants.{Literal, FromArgument}
 
--- so many spaces, a token, and so many spaces
-pub record Parts : Type 0 where
-  pub lead : ℕ
-  pub token : List ℕ
-  pub trail : ℕ
+-- a number's field: under `-` the room that the width leaves is behind, else under `0` it is zeros, else it is in front
+abbrev pub filled_number : ConversionSpecifier → ℕ → List ℕ → List ℕ → List ℕ
+filled_number f room lead digits = if f.left_adj then lead ++ digits ++ fills room (byte " ") else (if f.zero_pad then lead ++ fills room (byte "0") ++ digits else fills room (byte " ") ++ lead ++ digits)
 
--- the parts written out
-abbrev pub text_of : Parts → List ℕ
-text_of p = replicate p.lead 32 ++ p.token ++ replicate p.trail 32
+-- the field of a character or a word: under `-` the room is behind, else in front
+abbrev pub filled_word : ConversionSpecifier → ℕ → List ℕ → List ℕ
+filled_word f room word = if f.left_adj then word ++ fills room (byte " ") else fills room (byte " ") ++ word
 
--- under `-` all room that the width leaves is behind, else under `0` it is zeros, else it is in front
-abbrev pub lead_of : ConversionSpecifier → ℕ → ℕ
-lead_of f room = if f.left_adj || f.zero_pad then 0 else room
-
-abbrev pub zeros_of : ConversionSpecifier → ℕ → ℕ
-zeros_of f room = if f.left_adj then 0 else (if f.zero_pad then room else 0)
-
-abbrev pub trail_of : ConversionSpecifier → ℕ → ℕ
-trail_of f room = if f.left_adj then room else 0
-
--- the sign of a signed number under a decimal conversion; all else has none
-abbrev pub decimal_sign : ConversionSpecifier → ℤ → List ℕ
-decimal_sign f (negsuc n) = codes "-"
-decimal_sign f (pos n) = if f.force_sign then codes "+" else (if f.space_sign then codes " " else [])
-
-abbrev pub sign_of : ConversionType → ConversionSpecifier → ℤ → List ℕ
-sign_of DecInt f z = decimal_sign f z
-sign_of _ f z = []
+-- the sign of a signed number in decimal
+abbrev pub sign_of : ConversionSpecifier → ℤ → List ℕ
+sign_of f (negsuc n) = codes "-"
+sign_of f (pos n) = if f.force_sign then codes "+" else (if f.space_sign then codes " " else [])
 
 -- the prefix that `#` puts before the digits, on every value
 abbrev pub prefix_of : ConversionType → List ℕ
@@ -52,27 +38,6 @@ digits_of OctInt n = numeral 8 false n
 digits_of HexIntLower n = numeral 16 false n
 digits_of HexIntUpper n = numeral 16 true n
 digits_of _ n = numeral 10 false n
-
--- the number whose digits are written: the absolute value in decimal, else a negative number's two's complement at its type's bits
-abbrev pub twos_complement : ℕ → ℤ → ℕ
-twos_complement bits (pos n) = n
-twos_complement bits (negsuc n) = 2 ^ bits - (n + 1)
-
-abbrev pub written_of : ConversionType → ℕ → ℤ → ℕ
-written_of DecInt bits z = unsigned_abs z
-written_of _ bits z = twos_complement bits z
-
--- a number's field: its token is sign, prefix, zeros and digits
-abbrev pub number_parts : ConversionSpecifier → ℕ → List ℕ → List ℕ → List ℕ → Parts
-number_parts f width sign prefix digits =
-    let room = width - (length sign + length prefix + length digits) in
-    record { lead = lead_of f room; token = sign ++ prefix ++ replicate (zeros_of f room) 48 ++ digits; trail = trail_of f room }
-
--- the field of a character or a word, which no zeros fill
-abbrev pub word_parts : ConversionSpecifier → ℕ → List ℕ → Parts
-word_parts f width word =
-    let room = width - length word in
-    record { lead = if f.left_adj then 0 else room; token = word; trail = trail_of f room }
 
 -- the longest front of whole characters that has at most so many bytes
 abbrev pub cut_to : ℕ → List ℕ → List ℕ
@@ -89,23 +54,25 @@ abbrev pub with_number : Option ℕ → (ℕ → Result (List ℕ) PrintfError) 
 with_number (Some n) text = text n
 with_number None text = Err Unknown
 
--- a number under a conversion to digits
+-- a number under a conversion to digits, behind a sign or a prefix
 abbrev pub number_text : ConversionSpecifier → List ℕ → ℕ → Result (List ℕ) PrintfError
-number_text f sign n =
-    let t = f.conversion_type in
-    with_number (number_of f.width) (λ width. Ok (text_of (number_parts f width sign (if f.alt_form then prefix_of t else []) (digits_of t n))))
+number_text f lead n =
+    let digits = digits_of f.conversion_type n in
+    with_number (number_of f.width) (λ width. Ok (filled_number f (width - (length lead + length digits)) lead digits))
 
+-- an unsigned number, which has no sign
 abbrev pub unsigned_text : ConversionSpecifier → ℕ → Result (List ℕ) PrintfError
-unsigned_text f n = number_text f [] n
+unsigned_text f n = number_text f (if f.alt_form then prefix_of f.conversion_type else []) n
 
--- a signed number, of a type with so many bits
-abbrev pub signed_text : ℕ → ConversionSpecifier → ℤ → Result (List ℕ) PrintfError
-signed_text bits f z = number_text f (sign_of f.conversion_type f z) (written_of f.conversion_type bits z)
+-- a signed number: in decimal its sign and its absolute value, else its two's complement
+abbrev pub signed_text : ConversionType → ConversionSpecifier → ℤ → ℕ → Result (List ℕ) PrintfError
+signed_text DecInt f z complement = number_text f (sign_of f z) (unsigned_abs z)
+signed_text _ f z complement = unsigned_text f complement
 
 -- a character, which no precision cuts
 abbrev pub character_text : ConversionSpecifier → ℕ → Result (List ℕ) PrintfError
-character_text f c = with_number (number_of f.width) (λ width. Ok (text_of (word_parts f width (encode_utf8 c))))
+character_text f c = with_number (number_of f.width) (λ width. Ok (filled_word f (width - length (encode_utf8 c)) (encode_utf8 c)))
 
 -- a word, cut to its precision
 abbrev pub word_text : ConversionSpecifier → List ℕ → Result (List ℕ) PrintfError
-word_text f word = with_number (number_of f.width) (λ width. with_number (number_of f.precision) (λ precision. Ok (text_of (word_parts f width (cut_to precision word)))))
+word_text f word = with_number (number_of f.width) (λ width. with_number (number_of f.precision) (λ precision. Ok (filled_word f (width - length (cut_to precision word)) (cut_to precision word))))

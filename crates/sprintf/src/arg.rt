@@ -1,4 +1,7 @@
 // A value to print, of any carried kind.
+use crate::field::{
+    append_char, append_code, append_i8, append_signed, append_u8, append_unsigned, append_word,
+};
 use crate::{ConversionSpecifier, Printf, Result};
 use std::alloc::Global;
 
@@ -167,19 +170,32 @@ impl<'a> Printf for Arg<'a> {
     ghost meaning = { arg_meaning };
 
     fn format(&self, alloc: Global, spec: &ConversionSpecifier) -> Result<String> {
+        let mut text = String::new(alloc);
+        self.format_into(alloc, spec, &mut text)?;
+        Ok(text)
+    }
+
+    #[inline]
+    fn format_into(
+        &self,
+        alloc: Global,
+        spec: &ConversionSpecifier,
+        out: &mut String,
+    ) -> Result<()> {
+        let _ = alloc;
         match self {
-            Arg::U8(value) => value.format(alloc, spec),
-            Arg::U16(value) => value.format(alloc, spec),
-            Arg::U32(value) => value.format(alloc, spec),
-            Arg::U64(value) => value.format(alloc, spec),
-            Arg::Usize(value) => value.format(alloc, spec),
-            Arg::I8(value) => value.format(alloc, spec),
-            Arg::I16(value) => value.format(alloc, spec),
-            Arg::I32(value) => value.format(alloc, spec),
-            Arg::I64(value) => value.format(alloc, spec),
-            Arg::Isize(value) => value.format(alloc, spec),
-            Arg::Char(value) => value.format(alloc, spec),
-            Arg::Str(value) => value.format(alloc, spec),
+            Arg::U8(n) => append_u8(spec, *n, out),
+            Arg::U16(n) => append_code(spec, u32::from(*n), out),
+            Arg::U32(n) => append_code(spec, *n, out),
+            Arg::U64(n) => append_unsigned(spec, *n, out),
+            Arg::Usize(n) => append_unsigned(spec, *n as u64, out),
+            Arg::I8(n) => append_i8(spec, *n, out),
+            Arg::I16(n) => append_signed(spec, i64::from(*n), u64::from(n.cast_unsigned()), out),
+            Arg::I32(n) => append_signed(spec, i64::from(*n), u64::from(n.cast_unsigned()), out),
+            Arg::I64(n) => append_signed(spec, *n, n.cast_unsigned(), out),
+            Arg::Isize(n) => append_signed(spec, *n as i64, n.cast_unsigned() as u64, out),
+            Arg::Char(c) => append_char(spec, *c, out),
+            Arg::Str(word) => append_word(spec, word, out),
         }
     }
 

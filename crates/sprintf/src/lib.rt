@@ -1,21 +1,25 @@
 //! Formats of `printf`, parsed and printed over values.
 #![tactic(auto)]
 
-ghost use Rattle.std.specs.Prelude.{◌≡◌, ◌⊎◌, [], map, string_bytes, IfOk, IfErr, OnOk, OnErr, Ok, Err};
-ghost use Rattle.sprintf.specs.Printed.{printed, take_param, take_text, take_field, PrintsFormat, RefusesFormat};
-ghost use Rattle.sprintf.specs.Reading.{Prints};
+ghost use Rattle.std.specs.Prelude.{◌≡◌, ◌⊎◌, ◌++◌, ℕ, List, map, drop, string_bytes, IfOk, IfErr, OnOk, Ok, Err};
+ghost use Rattle.numerals.specs.Answer.{IsAnswer, AppendsAnswer};
+ghost use Rattle.sprintf.specs.Printed.{printed, param_of, stars, value_text, field_text, wanted, PrintsFormat, RefusesFormat};
+ghost use Rattle.sprintf.specs.Inner.Reading.{Starts};
 
 mod arg;
+mod field;
 mod format;
 mod laws;
 pub mod parser;
 
 pub use arg::Arg;
 pub use format::Printf;
-pub use laws::{fills_its_width, one_element_list, one_value};
+pub use laws::{
+    carried_refuse_types, fills_its_width, one_element_list, one_value, takes_faults_from_values,
+};
 pub use parser::{ConversionSpecifier, ConversionType, NumericParam};
 use parser::{FormatElement, parse_format_string};
-use std::alloc::Global;
+use std::alloc::{AllocError, Global};
 use thiserror::Error;
 
 /// Why a format wasn't printed.
@@ -41,6 +45,26 @@ pub enum PrintfError {
     NoMemory,
 }
 
+impl From<AllocError> for PrintfError {
+    ghost use Rattle.sprintf.specs.declared.PrintfError.TheVariants.{NoMemory};
+
+    ghost from_gives = { λ _ fault. fault ≡ NoMemory };
+
+    fn from(_: AllocError) -> PrintfError {
+        PrintfError::NoMemory
+    }
+}
+
+impl From<numerals::NoMemory> for PrintfError {
+    ghost use Rattle.sprintf.specs.declared.PrintfError.TheVariants.{NoMemory};
+
+    ghost from_gives = { λ _ fault. fault ≡ NoMemory };
+
+    fn from(_: numerals::NoMemory) -> PrintfError {
+        PrintfError::NoMemory
+    }
+}
+
 /// An answer, or why a format wasn't printed.
 pub type Result<T> = std::result::Result<T, PrintfError>;
 
@@ -64,53 +88,47 @@ pub fn vsprintfp<P: Printf>(
     elements: &[FormatElement<'_>],
     args: &[P],
 ) -> Result<String>
-    ensures ok { IfOk result (λ t. printed elements.now (map P.meaning args.now) ≡ Ok (string_bytes t)) }
-    ensures err { IfErr result (λ e. (printed elements.now (map P.meaning args.now) ≡ Err e) ⊎ (e ≡ PrintfError.NoMemory)) }
+    ensures { IsAnswer string_bytes PrintfError.NoMemory (printed elements.now (map P.meaning args.now)) result }
 {
     let mut out = String::new(alloc);
     vsprintfp_into(alloc, &mut out, elements, args)?;
     Ok(out)
 }
 
-/// Prints as [`vsprintfp`] does, into a text in the place of what that held, so that its room is used again.
-/// After a refusal the text is empty.
+/// Appends what [`vsprintfp`] answers. After a refusal `out` is as before.
 pub fn vsprintfp_into<P: Printf>(
     alloc: Global,
     out: &mut String,
     elements: &[FormatElement<'_>],
     args: &[P],
 ) -> Result<()>
-    ensures ok { OnOk result (printed elements.now (map P.meaning args.now) ≡ Ok (string_bytes out.new)) }
-    ensures err { IfErr result (λ e. (printed elements.now (map P.meaning args.now) ≡ Err e) ⊎ (e ≡ PrintfError.NoMemory)) }
-    ensures empty { OnErr result (string_bytes out.new ≡ []) }
+    ensures { AppendsAnswer PrintfError.NoMemory (printed elements.now (map P.meaning args.now)) (string_bytes out.old) (string_bytes out.new) result }
 {
-    out.clear();
+    let before = out.len();
     match print_elements(alloc, out, elements, args) {
         Ok(()) => Ok(()),
-        Err(cause) => {
-            out.clear();
-            Err(cause)
+        Err(fault) => {
+            out.truncate(before);
+            Err(fault)
         }
     }
 }
 
-/// Prints the elements into an empty text.
+/// Appends the elements, after a refusal those in front of it.
 fn print_elements<P: Printf>(
     alloc: Global,
     out: &mut String,
     elements: &[FormatElement<'_>],
     args: &[P],
 ) -> Result<()>
-    requires { string_bytes out.old ≡ [] }
-    ensures ok { OnOk result (printed elements.now (map P.meaning args.now) ≡ Ok (string_bytes out.new)) }
+    ensures ok { OnOk result ((text : List ℕ) × (printed elements.now (map P.meaning args.now) ≡ Ok text) × (string_bytes out.new ≡ string_bytes out.old ++ text)) }
     ensures err { IfErr result (λ e. (printed elements.now (map P.meaning args.now) ≡ Err e) ⊎ (e ≡ PrintfError.NoMemory)) }
+    ensures front { Starts (string_bytes out.old) (string_bytes out.new) }
 {
     let mut rest = args;
     for element in elements {
         match element {
-            FormatElement::Verbatim(text) => {
-                out.push_str(text).map_err(|_| PrintfError::NoMemory)?;
-            }
+            FormatElement::Verbatim(text) => out.push_str(text)?,
             FormatElement::Format(spec) => rest = print_field(alloc, out, spec, rest)?,
         }
     }
@@ -121,18 +139,18 @@ fn print_elements<P: Printf>(
     }
 }
 
-/// Prints one field, and gives the arguments that are left.
+/// Appends one field, and gives the arguments that are left.
 fn print_field<'p, P: Printf>(
     alloc: Global,
     out: &mut String,
     spec: &ConversionSpecifier,
     args: &'p [P],
 ) -> Result<&'p [P]>
-    ensures ok { IfOk result (λ rest. Prints (take_field spec.now (map P.meaning args.entry.now)) (string_bytes out.old) (string_bytes out.new) (map P.meaning rest.now)) }
-    ensures err { IfErr result (λ e. (take_field spec.now (map P.meaning args.entry.now) ≡ Err e) ⊎ (e ≡ PrintfError.NoMemory)) }
+    ensures text { AppendsAnswer PrintfError.NoMemory (field_text spec.now (map P.meaning args.entry.now)) (string_bytes out.old) (string_bytes out.new) result }
+    ensures left { IfOk result (λ left. map P.meaning left.now ≡ drop (wanted spec.now) (map P.meaning args.entry.now)) }
 {
     if let ConversionType::PercentSign = spec.conversion_type {
-        out.push_str("%").map_err(|_| PrintfError::NoMemory)?;
+        out.push_str("%")?;
         return Ok(args);
     }
     let (width, after_width) = take_param(spec.width, args)?;
@@ -147,32 +165,31 @@ fn print_field<'p, P: Printf>(
 
 /// A width or a precision as a number, and the arguments that are left.
 fn take_param<P: Printf>(param: NumericParam, args: &[P]) -> Result<(NumericParam, &[P])>
-    ensures ok { IfOk result (λ r. take_param param (map P.meaning args.now) ≡ Ok (r.0, map P.meaning r.1.now)) }
-    ensures err { IfErr result (λ e. take_param param (map P.meaning args.now) ≡ Err e) }
+    ensures ok { IfOk result (λ r. param_of param (map P.meaning args.now) ≡ Ok r.0) }
+    ensures left { IfOk result (λ r. map P.meaning r.1.now ≡ drop (stars param) (map P.meaning args.now)) }
+    ensures err { IfErr result (λ e. param_of param (map P.meaning args.now) ≡ Err e) }
 {
     let NumericParam::FromArgument = param else {
         return Ok((param, args));
     };
-    let (first, rest) = args.split_first().ok_or(PrintfError::NotEnoughArgs)?;
-    let number = first.as_int().ok_or(PrintfError::WrongType)?;
-    Ok((NumericParam::Literal(number), rest))
+    let (value, left) = args.split_first().ok_or(PrintfError::NotEnoughArgs)?;
+    let number = value.as_int().ok_or(PrintfError::WrongType)?;
+    Ok((NumericParam::Literal(number), left))
 }
 
-/// Prints the next argument under a specification without `*`, and gives the arguments that are left.
+/// Appends the next argument under a specification without `*`, and gives the arguments that are left.
 fn print_value<'p, P: Printf>(
     alloc: Global,
     out: &mut String,
     spec: &ConversionSpecifier,
     args: &'p [P],
 ) -> Result<&'p [P]>
-    ensures ok { IfOk result (λ rest. Prints (take_text spec.now (map P.meaning args.entry.now)) (string_bytes out.old) (string_bytes out.new) (map P.meaning rest.now)) }
-    ensures err { IfErr result (λ e. (take_text spec.now (map P.meaning args.entry.now) ≡ Err e) ⊎ (e ≡ PrintfError.NoMemory)) }
+    ensures text { AppendsAnswer PrintfError.NoMemory (value_text spec.now (map P.meaning args.entry.now)) (string_bytes out.old) (string_bytes out.new) result }
+    ensures left { IfOk result (λ left. map P.meaning left.now ≡ drop 1 (map P.meaning args.entry.now)) }
 {
-    let (first, rest) = args.split_first().ok_or(PrintfError::NotEnoughArgs)?;
-    let text = first.format(alloc, spec)?;
-    out.push_str(text.as_str())
-        .map_err(|_| PrintfError::NoMemory)?;
-    Ok(rest)
+    let (first, left) = args.split_first().ok_or(PrintfError::NotEnoughArgs)?;
+    first.format_into(alloc, spec, out)?;
+    Ok(left)
 }
 
 /// Prints the arguments by the format: `sprintf!(alloc, fmt, a, b)`.
@@ -189,6 +206,3 @@ macro_rules! sprintf {
         $crate::vsprintf($alloc, $fmt, &[$($crate::Arg::from($arg)),+])
     };
 }
-
-#[cfg(test)]
-mod tests;

@@ -6,4 +6,4 @@ pub returns : goal.returns
 returns c =
     let pushed = c.push.ensures.items in
     let ok = c.if-is_err.ensures.negation in
-    rw (c.into_iter-tokens.ensures.rest, pushed, ok, c.new-tokens.ensures.items, c.new.ensures.bytes, chars-nil) refl
+    rw (pushed, ok, c.new-tokens.ensures.items, c.new.ensures.bytes, chars-nil) refl

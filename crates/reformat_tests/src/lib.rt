@@ -1,0 +1,11 @@
+//! Worked inputs of `reformat`, each with what must come of it, as a stranger calls it.
+#![tactic(auto)]
+
+#[cfg(test)]
+mod faults;
+#[cfg(test)]
+mod limits;
+#[cfg(test)]
+mod rewriting;
+#[cfg(test)]
+mod support;

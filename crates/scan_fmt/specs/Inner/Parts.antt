@@ -1,0 +1,50 @@
+-- What the program's own types for the parts of a format stand for, and what one directive does to an input.
+use Rattle.std.specs.Prelude.{◌≡◌, ℕ, List, map, Option, None, Some}
+use Rattle.std.specs.Str.{chars}
+use Rattle.scan_fmt.specs.declared.directive.Run.{Run as RunPart}
+use Rattle.scan_fmt.specs.declared.directive.Run.TheVariants.{Until as UntilPart, Solid as SolidPart, Among as AmongPart}
+use Rattle.scan_fmt.specs.declared.directive.Notation.{Notation as NotationPart}
+use Rattle.scan_fmt.specs.declared.directive.Notation.TheVariants.{Decimal as DecimalPart, Hexadecimal as HexadecimalPart, Float as FloatPart}
+use Rattle.scan_fmt.specs.declared.directive.Shape.{Shape as ShapePart}
+use Rattle.scan_fmt.specs.declared.directive.Shape.TheVariants.{Characters as CharactersPart, Number as NumberPart}
+use Rattle.scan_fmt.specs.declared.directive.Body.{Body}
+use Rattle.scan_fmt.specs.declared.directive.Body.TheVariants.{Takes, Ends}
+use Rattle.scan_fmt.specs.declared.directive.Directive.{Directive as DirectivePart}
+use Rattle.scan_fmt.specs.declared.directive.Directive.TheVariants.{Literal, Field as FieldPart, End}
+use Rattle.scan_fmt.specs.declared.field.Pass.{Pass}
+use Rattle.scan_fmt.specs.declared.field.Pass.TheVariants.{Mismatch, Passed, Taken}
+use Rattle.scan_fmt.specs.Directives.{Run, Until, Solid, Among, Notation, Decimal, Hexadecimal, Float, Shape, Characters, Number, Directive, Exactly, Field, AtEnd}
+use Rattle.scan_fmt.specs.Scanned.{Token, Outcome, Passes, Refuses, Takes as TakesFrom, tokens_of}
+
+abbrev pub run_of : RunPart → Run
+run_of (UntilPart stop) = Until stop
+run_of SolidPart = Solid
+run_of (AmongPart inverted listing) = Among inverted (chars listing.now)
+
+abbrev pub notation_of : NotationPart → Notation
+notation_of DecimalPart = Decimal
+notation_of HexadecimalPart = Hexadecimal
+notation_of FloatPart = Float
+
+abbrev pub shape_of : ShapePart → Shape
+shape_of (CharactersPart run) = Characters (run_of run)
+shape_of (NumberPart notation limit) = Number (notation_of notation) limit
+
+abbrev pub body_of : Body → Option Shape
+body_of (Takes shape) = Some (shape_of shape)
+body_of Ends = None
+
+abbrev pub directive_of : DirectivePart → Directive
+directive_of (Literal c) = Exactly c
+directive_of (FieldPart stored shape) = Field stored (shape_of shape)
+directive_of End = AtEnd
+
+-- the input doesn't fit, or a front was passed with or without a token
+abbrev pub IsPass : Directive → List ℕ → Pass → Type 0
+IsPass d input Mismatch = Refuses d input
+IsPass d input (Passed rest) = Passes d input None (chars rest.now)
+IsPass d input (Taken token rest) = Passes d input (Some (record { text = chars token.now; behind = chars rest.now })) (chars rest.now)
+
+-- these are the texts of the tokens that the directives come to over the input
+abbrev pub TakesTexts : List Directive → List ℕ → List (List ℕ) → Type 0
+TakesTexts ds input texts = (out : Outcome) × TakesFrom ds input out × (texts ≡ map (λ (t : Token). t.text) (tokens_of out))

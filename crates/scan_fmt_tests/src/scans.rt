@@ -1,0 +1,133 @@
+// Worked scans: what formats take from inputs.
+use numerals::NoMemory;
+use scan_fmt::parse::{Format, ScanError, Tokens, one_answer, scan, some_answer};
+use std::alloc::Global;
+use std::process::Abort;
+use std::test::Fail;
+
+// Each line is a format, an input, and the tokens with a semicolon after each: literals, runs and the ends of both texts; then
+// numbers and their limits; then sets and malformed fields.
+const SCANS: &str = "\
+    data {d}-{d}={d}\t data 42-12=30\t42;12;30;\n\
+    {d} hi{e}\t12 hi2\t;\n\
+    {d} hi{e}\t12 hi\t12;\n\
+    {d}in\t17\t17;\n\
+    {d}cm\t17in\t;\n\
+    {2d}{3d}{4x}{2d} {3d}\t01123fe071 432\t01;123;fe07;1;432;\n\
+    xyz {[40-3]}{*[65]}{[7-78-9λ]}\txyz  01234567λ89\t01234;7λ89;\n\
+    {f}\t42\t42;\n\
+    {5}\t42\t\n\
+    {//}\t42\t\n\
+    {/a\t42\t\n\
+    {s}{s} {}n {s}x\tThe quick brown fox\tThe;quick;brow;fox;\n\
+    λ{d}\tλ1\t1;\n\
+    {\tx\t\n\
+    {[\tx\t\n\
+    {{}x}}{d}\t{x}7\t7;\n\
+    } a\t a\t;\n\
+    }\t}\t\n\
+    a b\tab\t\n\
+    {}é{}\t1é2\t1;2;\n\
+    {}{d}\ta{b}c 2\ta;;\n\
+    {} x\ta{b}c x\ta{b}c;\n\
+    {*}{s}\ta{b}c x\t{b}c;\n\
+    {e}\t \t\n\
+    {3e}\ta\t;\n\
+    \tab123c d\t\n\
+    ab{*2d}c{s}\t\t\n\
+    ab{*2d}c{s}\tab12\t\n\
+    {}{s}\t  1 2\t1;2;\n\
+    {}}{s}\t  1 2\t;\n\
+    ab\tAb\t;\n\
+    中 {s}\t中 é\té;\n\
+    {0d}\t007\t007;\n\
+    {1d}{s}\t 42 end\t4;2;\n\
+    {2d}{*d}{s}\t-7 end\t-7;end;\n\
+    {3d}{s}\t +9 end\t9;end;\n\
+    {d}{s}\t+-1 end\t;-1;\n\
+    {d}{s}\t- end\t-;end;\n\
+    {18446744073709551615d}{s}\t12345 z\t12345;z;\n\
+    {18446744073709551616d}{s}\t-12345 z\t-12345;z;\n\
+    {0d}{s}\t ٣ end\t;٣;\n\
+    {x}\t0x1F\t1F;\n\
+    {1x}{s}\t1f end\t1;f;\n\
+    {*2x}{s}\t0x end\tend;\n\
+    {x}{s}\t00x1 end\t00;x1;\n\
+    {3x}{s}\tx1f end\tx1f;end;\n\
+    {x}\t0x0x1\t0;\n\
+    {x}{s}\t0xé end\t;é;\n\
+    {f}{s}\t+3.25e10 end\t3.25e10;end;\n\
+    {1f}{s}\t1.5 end\t1;.5;\n\
+    {2f}{s}\t1.5é end\t1.;5é;\n\
+    {f}{s}\t1e-3 end\t1e-3;end;\n\
+    {4f}{s}\t1+2 end\t1;+2;\n\
+    {f}{s}\te5 end\te5;end;\n\
+    {f}{s}\tnan end\t;nan;\n\
+    {[abc]}{s}\tabc-]^\tabc;-]^;\n\
+    {[^a]}{s}\tabc-]^\t;abc-]^;\n\
+    {[^]]}{s}\tabc-]^\tabc-;]^;\n\
+    {[a-]}{s}\tabc-]^\ta;bc-]^;\n\
+    {[^-a]}{s}\tabc-]^\t;abc-]^;\n\
+    {[]-a]}{s}\tabc-]^\ta;bc-]^;\n\
+    {[^é]}{s}\tabc-]^\tabc-]^;\n\
+    {0[0-9]}{s}\t1234 56\t1234;56;\n\
+    {[^a-c]}a\txyza5 \txyz;\n\
+    {[a-]]}{s}\tabc-]^\t\n\
+    {d}{[^\t7abab\t7;\n\
+    {d}{[]\t7abab\t7;\n\
+    {d}{[a]x}\t7abab\t7;\n\
+    {s}{**d}{s}\tone 22 three\tone;\n\
+    {s}{5 d}{s}\tone 22 three\tone;\n\
+    {s}{D}{s}\tone 22 three\tone;\n\
+    {4x}-{\tff-b\tff;\n\
+    {d}{3/a/}{s}\t7abc\t7;\n\
+";
+
+/// The tokens, each with a semicolon after it.
+fn joined(alloc: Global, tokens: Tokens) -> Result<String, NoMemory> {
+    let mut text = String::new(alloc);
+    for token in tokens {
+        if text.push_str(&token).is_err() || text.push(';').is_err() {
+            return Err(NoMemory);
+        }
+    }
+    Ok(text)
+}
+
+fn follow(rt: &impl Abort, alloc: Global, rows: &str) -> Result<(), Fail> {
+    for row in rows.lines() {
+        let (format, rest) = row.split_once('\t').ok_or("no format")?;
+        let (input, tokens) = rest.split_once('\t').ok_or("no input")?;
+        let found = scan(alloc, input, format).ok().ok_or("no memory")?;
+        let found = joined(alloc, found).ok().ok_or("no memory")?;
+        assert_eq!(rt; found.as_str(), tokens, "{format} of {input}");
+    }
+    Ok(())
+}
+
+#[test]
+fn formats_take_tokens(rt: HostRuntime) -> Result<(), Fail> {
+    one_answer();
+    some_answer();
+    follow(&rt, rt.alloc(), SCANS)
+}
+
+#[test]
+fn a_format_scans_many_inputs(rt: HostRuntime) -> Result<(), Fail> {
+    let alloc = rt.alloc();
+    let format = Format::new(alloc, "{d}-{s}").ok().ok_or("no memory")?;
+    for (input, tokens) in [("1-a", "1;a;"), ("2 -b c", "2;b;"), ("3", "3;")] {
+        let found = format.scan(alloc, input).ok().ok_or("no memory")?;
+        let found = joined(alloc, found).ok().ok_or("no memory")?;
+        assert_eq!(rt; found.as_str(), tokens, "{input}");
+    }
+    Ok(())
+}
+
+#[test]
+fn a_fault_shows_its_text(rt: HostRuntime) -> Result<(), Fail> {
+    let error = ScanError(String::from_str(rt.alloc(), "no number")?);
+    let shown = format!(in rt.alloc(); "{error}")?;
+    assert_eq!(rt; shown.as_str(), "Scan error: no number");
+    Ok(())
+}

@@ -1,0 +1,10 @@
+//! Kinds, and values of them.
+#![tactic(auto)]
+
+mod kind;
+mod value;
+mod word;
+
+pub use kind::{Kind, KindsError, parse_kinds};
+pub use value::Value;
+pub use word::Word;
