@@ -1,5 +1,5 @@
 // Each public call once, and each carried type.
-use formatx::{DebugStyle, FormatSpec, FormatValue, Name, Segment, Template, parse, render};
+use formatx::{DebugStyle, Error, FormatSpec, FormatValue, Name, Segment, Template, parse, render};
 use std::alloc::Global;
 use std::test::Fail;
 
@@ -103,15 +103,20 @@ fn other_kinds(rt: HostRuntime) -> Result<(), Fail> {
     Ok(())
 }
 
+// What a template prints over one value.
+fn printed<V: FormatValue>(alloc: Global, source: &str, value: V) -> Result<String, Error> {
+    let template = Template::new(alloc, source)?;
+    let mut renderer = template.render::<V>(alloc);
+    renderer.add(value)?;
+    renderer.finish()
+}
+
 #[test]
 fn boxed_values(rt: HostRuntime) -> Result<(), Fail> {
     let alloc = rt.alloc();
-    let template = Template::new(alloc, "{:>3}{:?}")?;
-    let mut renderer = template.render::<Box<dyn FormatValue>>(alloc);
-    let number: Box<dyn FormatValue> = Box::new(alloc, 7u8)?;
-    let letter: Box<dyn FormatValue> = Box::new(alloc, 'c')?;
-    let _ = renderer.arg(number)?.arg(letter)?;
-    assert_eq!(rt; renderer.finish()?.as_str(), "  7'c'");
+    let boxed: Box<dyn FormatValue> = Box::new(alloc, 7u8)?;
+    let text = printed(alloc, "{:>3}", boxed)?;
+    assert_eq!(rt; text.as_str(), "  7");
     Ok(())
 }
 

@@ -1,6 +1,7 @@
 -- The rules of the job that owes the first line, and that they are clear.
 use Rattle.std.specs.Prelude.{◌≡◌, ℕ, List, [], Bool, true, false, Option, Some, None, codes, string_bytes}
 use Rattle.std.proofs.Common.{sym, ◌∙◌, refl}
+use Rattle.std.specs.Global.{Global}
 use Rattle.std.specs.declared.string.String.{String}
 use Rattle.line_job.specs.Rules.{Rules}
 use Rattle.line_job.specs.Laws.{AreClear}
@@ -37,7 +38,7 @@ abbrev pub missing_message : Missing → List ℕ
 missing_message why = codes "no line\n"
 
 -- the stage of the job
-abbrev pub stage_of : Option String → Stage
+abbrev pub stage_of : Option (String Global) → Stage
 stage_of None = head_next
 stage_of (Some head) = rest_next (string_bytes head)
 

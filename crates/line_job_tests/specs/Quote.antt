@@ -1,5 +1,6 @@
 -- The rules of the job that quotes.
-use Rattle.std.specs.Prelude.{◌≡◌, ◌≢◌, ℕ, List, [], ◌∷◌, ◌++◌, Bool, true, Option, Some, None, codes, string_bytes}
+use Rattle.std.specs.Prelude.{◌≡◌, ◌≢◌, ℕ, List, [], ◌∷◌, ◌++◌, true, Option, Some, None, codes, string_bytes}
+use Rattle.std.specs.Global.{Global}
 use Rattle.std.specs.declared.string.String.{String}
 use Rattle.line_job.specs.Rules.{Rules}
 use Rattle.line_job.specs.Told.{line_message}
@@ -36,6 +37,6 @@ abbrev pub empty_message : Empty → List ℕ
 empty_message why = line_message why.line (codes "empty")
 
 -- the stage of the job
-abbrev pub stage_of : Option String → Stage
+abbrev pub stage_of : Option (String Global) → Stage
 stage_of None = lead_next
 stage_of (Some lead) = lines_next (string_bytes lead)

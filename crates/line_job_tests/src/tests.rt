@@ -40,7 +40,11 @@ fn run_line<J: LineJob>(rt: &impl Abort, alloc: Global, job: &mut J, line: &str)
 {
     let mut parts = line.split(';');
     let bytes = bytes_of(alloc, parts.next().ok_or("no input")?)?;
-    let limit = parts.next().ok_or("no limit")?.parse::<u64>().map_err(|_| "no number")?;
+    let limit = parts
+        .next()
+        .ok_or("no limit")?
+        .parse::<u64>()
+        .map_err(|_| "no number")?;
     let status = parts.next().ok_or("no status")?;
     let written = bytes_of(alloc, parts.next().ok_or("no output")?)?;
     let told = bytes_of(alloc, parts.next().ok_or("no message")?)?;
@@ -96,7 +100,11 @@ fn tells_each_stop(rt: HostRuntime) -> Result<(), Fail> {
     one_answer(&job);
     splits(&job);
     for (stop, status, message) in [
-        (Stop::<crate::quote::Empty>::NotUtf8 { line: 7 }, 1, b"line 7: not UTF-8\n".as_slice()),
+        (
+            Stop::<crate::quote::Empty>::NotUtf8 { line: 7 },
+            1,
+            b"line 7: not UTF-8\n".as_slice(),
+        ),
         (Stop::ReadFault, 4, b"read fault\n".as_slice()),
         (Stop::WriteFault, 5, b"write fault\n".as_slice()),
         (Stop::NoMemory, 6, b"no memory\n".as_slice()),

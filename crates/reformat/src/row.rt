@@ -1,5 +1,5 @@
 // Rows read and printed.
-ghost use Rattle.std.specs.Prelude.{◌≡◌, ◌⊎◌, ◌<◌, ◌^◌, ◌++◌, ◌∷◌, [], ℕ, List, IfOk, IfErr, IfSome, IfNone, IsTrue, ◌↔◌, ◌≢◌, false, string_bytes, take, IsCharBoundary, OnOk, OnErr, length, slice_index};
+ghost use Rattle.std.specs.Prelude.{◌≡◌, ◌⊎◌, ◌<◌, ◌≤◌, ◌^◌, ◌+◌, ◌*◌, min, ◌++◌, ◌∷◌, [], ℕ, List, IfOk, IfErr, IfSome, IfNone, IsTrue, ◌↔◌, ◌≢◌, false, string_bytes, take, IsCharBoundary, OnOk, OnErr, length, slice_index};
 ghost use Rattle.std.specs.Fmt.{decimal};
 ghost use Rattle.reformat.specs.declared.error.RenderFault.{RenderFault};
 ghost use Rattle.reformat.specs.declared.error.LineCause.TheVariants.{Render};
@@ -25,6 +25,18 @@ use std::alloc::{AllocError, Global};
 /// The digits of the greatest number.
 const GREATEST: &[u8] = b"18446744073709551615";
 
+// The number with one more digit behind it, which stops at the greatest.
+fn with_digit(number: u64, digit: u8) -> u64
+    requires { digit ≤ 9 }
+    ensures { result ≡ min (number * 10 + digit) 18446744073709551615 }
+{
+    if number < 1_844_674_407_370_955_161 {
+        number * 10 + u64::from(digit)
+    } else {
+        number.saturating_mul(10).saturating_add(u64::from(digit))
+    }
+}
+
 // The number that the digits in front are, which stops at the greatest, and the text after them.
 fn digits_in_front(text: &[u8]) -> (u64, &[u8])
     ensures read { ReadsDigits text.now result.1.now result.0 }
@@ -33,9 +45,7 @@ fn digits_in_front(text: &[u8]) -> (u64, &[u8])
     let mut number = 0u64;
     let mut rest = text;
     'digits: while let [digit @ b'0'..=b'9', after @ ..] = rest {
-        number = number
-            .saturating_mul(10)
-            .saturating_add(u64::from(*digit - b'0'));
+        number = with_digit(number, *digit - b'0');
         rest = after;
     }
     (number, rest)

@@ -9,17 +9,13 @@ fn keys_called(
     template: &str,
 ) -> std::result::Result<(String, Result<String>), AllocError> {
     let mut keys = String::new(alloc);
-    let answer = strfmt_map(
-        alloc,
-        template,
-        |f: &mut Formatter<'_>| -> Result<()> {
-            keys.push_str(f.key).map_err(|_| FmtError::NoMemory)?;
-            if f.key == "r" {
-                return f.u8(1).and(f.str("refused"));
-            }
-            f.skip()
-        },
-    );
+    let answer = strfmt_map(alloc, template, |f: &mut Formatter<'_>| -> Result<()> {
+        keys.push_str(f.key).map_err(|_| FmtError::NoMemory)?;
+        if f.key == "r" {
+            return f.u8(1).and(f.str("refused"));
+        }
+        f.skip()
+    });
     Ok((keys, answer))
 }
 
@@ -64,10 +60,7 @@ fn a_template_is_filled_many_times(rt: HostRuntime) -> std::result::Result<(), F
     let alloc = rt.alloc();
     let template = Template::new(alloc, "{n:>3}|{n:x}{{")?;
     let mut out = String::new(alloc);
-    for (number, want) in [
-        (7u8, "  7|7{"),
-        (200u8, "  7|7{200|c8{"),
-    ] {
+    for (number, want) in [(7u8, "  7|7{"), (200u8, "  7|7{200|c8{")] {
         template.fill(
             alloc,
             &mut out,
@@ -85,11 +78,7 @@ fn a_refused_filling_leaves_the_text(rt: HostRuntime) -> std::result::Result<(),
     let mut out = String::from_str(alloc, "before é")?;
     for text in ["é{a}{b:x}", "é{a}}", "é{a:k}"] {
         let template = Template::new(alloc, text)?;
-        let answer = template.fill(
-            alloc,
-            &mut out,
-            &mut |f: &mut Formatter<'_>| f.str("é"),
-        );
+        let answer = template.fill(alloc, &mut out, &mut |f: &mut Formatter<'_>| f.str("é"));
         assert!(rt; answer.is_err(), "{text}");
         assert!(rt; out.as_str() == "before é", "{text}");
     }

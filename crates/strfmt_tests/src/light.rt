@@ -19,8 +19,10 @@ impl DisplayStr for Light {
             Light::On => f.str("on"),
             Light::Off => f.str("off"),
             Light::Broken(message) => {
-                let copy = String::from_str(*message.allocator(), message.as_str());
-                Err(copy.map_or(FmtError::NoMemory, FmtError::KeyError))
+                match String::from_str(*message.allocator(), message.as_str()) {
+                    Ok(copy) => Err(FmtError::KeyError(copy)),
+                    Err(_) => Err(FmtError::NoMemory),
+                }
             }
         }
     }

@@ -1,6 +1,7 @@
 //! `whiteread` as a stranger uses it: words, values, lines, errors with their places, and the laws of readers.
 #![tactic(auto)]
 
+pub mod agreement;
 #[cfg(test)]
 mod errors;
 #[cfg(test)]

@@ -59,15 +59,15 @@ fn call_for_a_line<S: Source>(
 
 // An input, and then calls with what they answer.
 const CALLS: &str = "\
-    1 2$$3 4 5$6 7$8$|lend=\"1 2\\n\" continue=1 pair=(2, 3) in=4 start=6 line=8 parse=TooShort(Nothing)@6:0 \
-    line=TooShort(Nothing)@7:0 option=TooShort(Nothing)@8:0 lend=TooShort(Nothing)@9:0\n\
-    7$|lend=\"7\\n\" rest=7\n\
-    7$|advance=true current=\"7\\n\" advance=false current=\"\"\n\
-    7$8 x$9$|lend=\"7\\n\" lend=\"8 x\\n\" rest=Leftovers@2:3 lend=\"9\\n\" rest=9\n\
-    7$8$9$|lend=\"7\\n\" lend=\"8\\n\" lend=\"9\\n\" lend=TooShort(Nothing)@4:0\n\
-    x$|in=TooShort(Nothing) start=ParseError@1:1\n\
+    1 2$$3 4 5$6 7$8$|lend=\"1 2\\n\";continue=1;pair=(2, 3);in=4;start=6;line=8;parse=TooShort(Nothing)@6:0;\
+    line=TooShort(Nothing)@7:0;option=TooShort(Nothing)@8:0;lend=TooShort(Nothing)@9:0\n\
+    7$|lend=\"7\\n\";rest=7\n\
+    7$|advance=true;current=\"7\\n\";advance=false;current=\"\"\n\
+    7$8 x$9$|lend=\"7\\n\";lend=\"8 x\\n\";rest=Leftovers@2:3;lend=\"9\\n\";rest=9\n\
+    7$8$9$|lend=\"7\\n\";lend=\"8\\n\";lend=\"9\\n\";lend=TooShort(Nothing)@4:0\n\
+    x$|in=TooShort(Nothing);start=ParseError@1:1\n\
     1 2$|finish=Leftovers@1:3\n\
-    1$#$|continue=1 finish=IoError(NotUtf8)\n\
+    1$#$|continue=1;finish=IoError(NotUtf8)\n\
 ";
 
 #[test]
@@ -76,11 +76,10 @@ fn calls_take_turns(rt: HostRuntime) -> Result<(), Fail> {
     for row in CALLS.lines() {
         let (input, calls) = row.split_once('|').ok_or("no input")?;
         let mut reader = reader_of(alloc, input)?;
-        let mut rest = calls;
-        while let Some((name, after)) = rest.split_once('=') {
+        for step in calls.split(';') {
+            let (name, want) = step.split_once('=').ok_or("no answer")?;
             let found = call(alloc, &mut reader, name)?;
-            let left = after.strip_prefix(found.as_str()).ok_or("another answer")?;
-            rest = left.strip_prefix(' ').unwrap_or("");
+            assert_eq!(rt; found.as_str(), want, "{row}");
         }
     }
     Ok(())

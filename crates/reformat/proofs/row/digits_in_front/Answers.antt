@@ -10,7 +10,7 @@ digits-preserved c =
     let after : List ℕ = take (length rest - 1) (drop 1 rest) in
     let some : 0 < length rest = omega arith in
     let cut : rest ≡ get_or rest 0 0 ∷ after = first_and_rest rest some ∙ ap (λ r. get_or rest 0 0 ∷ r) (sym (take_rest rest 1)) in
-    digits_more c.args.text.now rest after (get_or rest 0 0) c.digits.number c.saturating_add-number.result c.digits.invariant cut (omega arith, omega arith) (omega arith)
+    digits_more c.args.text.now rest after (get_or rest 0 0) c.digits.number c.with_digit-number.result c.digits.invariant cut (omega arith, omega arith) (omega arith)
 
 pub returns-clause-apart : goal.returns-clause-apart
 returns-clause-apart c =
