@@ -1,11 +1,13 @@
 -- Proofs of the laws.
-use Rattle.std.proofs.Common.{◌≡◌, ℕ, ◌+◌, true, false, List, [], ◌∷◌, Option, Some, None, Result, Ok, Err, refl, ap, IsSome}
+use Rattle.std.proofs.Common.{◌≡◌, ℕ, ◌+◌, Bool, true, false, List, [], ◌∷◌, Option, Some, None, Result, Ok, Err, refl, ap, sym, ◌∙◌, IsSome}
 use Rattle.formatx.specs.Fault.{Fault, ◌>>=◌}
 use Rattle.formatx.specs.Values.{Meaning}
 use Rattle.formatx.specs.Scene.{Scene}
 use Rattle.formatx.specs.Counts.{precision_of}
 use Rattle.formatx.specs.Arguments.{precision_takes, value_at}
-use Rattle.formatx.specs.Text.{argument_text, rendered, segment_takes, segment_text, whole}
+use Rattle.formatx.specs.Text.{Prints, argument_text, rendered, segment_takes, segment_text, whole}
+use Rattle.formatx.specs.Grammar.{Spells}
+use Rattle.formatx.proofs.ReadingLemmas.{one_template}
 use Rattle.formatx.specs.Laws.{AllHaveValues, FinishesAgree, HasValue, MissingIsEmpty, with_strict}
 use Rattle.formatx.specs.declared.ast.Placeholder.{Placeholder}
 use Rattle.formatx.specs.declared.ast.Segment.{Segment}
@@ -34,8 +36,16 @@ rendered_same scene next (s ∷ ss) h =
     let rest = rendered_same scene (next + segment_takes s) ss h.1 in
     rw (first, rest) refl
 
+-- what the segments of a source print, strictly or leniently
+same_print : (scene : Scene) (ss : List Segment) (r : Result (List ℕ) Fault) (one other : Bool) → Spells scene.source ss → whole (rendered (with_strict scene one) 0 ss) ≡ whole (rendered (with_strict scene other) 0 ss) → Prints (with_strict scene one) r → Prints (with_strict scene other) r
+same_print scene ss r one other spelled same h =
+    let segments : ss ≡ h.0 = one_template scene.source ss h.0 spelled h.1 in
+    (ss, spelled, sym same ∙ ap (λ (xs : List Segment). whole (rendered (with_strict scene one) 0 xs)) segments ∙ h.2)
+
 pub finishes_agree : FinishesAgree
-finishes_agree scene segments e h = rw e (ap whole (rendered_same scene 0 segments h))
+finishes_agree scene ss r spelled h =
+    let same = ap whole (rendered_same scene 0 ss h) in
+    (same_print scene ss r true false spelled same, same_print scene ss r false true spelled (sym same))
 
 pub missing_is_empty : MissingIsEmpty
 missing_is_empty scene next p precision read none = (rw (read, none) refl, rw (read, none) refl)

@@ -1,90 +1,100 @@
 -- Worked rows of the definitions, computed.
-use Rattle.std.proofs.Common.{◌≡◌, ℕ, List, [], ◌∷◌, ◌++◌, false, Ok, Err, pos, refl}
+use Rattle.std.proofs.Common.{◌≡◌, ℕ, List, [], ◌∷◌, Some, true, Ok, Err, pos, refl, arith, inl, inr}
 use Rattle.std.specs.Prelude.{codes, Result}
 use Rattle.std.specs.Str.{chars}
 use Rattle.std.specs.Char.{encode_utf8}
 use Rattle.numerals.specs.Numeral.{numeral}
-use Rattle.formatx.specs.Fault.{Fault, unreadable, unsupported, span}
-use Rattle.formatx.specs.Options.{count_at, precision_at, type_at}
-use Rattle.formatx.specs.Segments.{segments_from, segments_of, placeholder_at, spec_at, options_at, argument_at}
+use Rattle.formatx.specs.Fault.{Fault, unreadable, missing, unsupported, span}
+use Rattle.formatx.specs.Options.{count_of, precision_of, type_of}
+use Rattle.formatx.specs.Placeholders.{argument_of, options_of, spec_of, placeholder_of}
+use Rattle.formatx.specs.Spans.{no_options}
+use Rattle.formatx.specs.Grammar.{Spells, HasFault}
 use Rattle.formatx.specs.Values.{Meaning, integer_meaning, str_meaning}
-use Rattle.formatx.specs.Text.{formatted, formatted_by_position}
-use Rattle.formatx.specs.declared.ast.FormatType.TheVariants.{LowerHex}
-use Rattle.formatx.specs.declared.ast.Segment.TheVariants.{EscapedOpen, EscapedClose}
+use Rattle.formatx.specs.Text.{placeholder_text}
+use Rattle.formatx.specs.declared.ast.Argument.TheVariants.{Implicit}
+use Rattle.formatx.specs.declared.ast.FormatType.TheVariants.{Debug, LowerHex}
+use Rattle.formatx.specs.declared.ast.Sign.TheVariants.{Plus}
+use Rattle.formatx.specs.declared.ast.Count.TheVariants.{Literal as Number}
+use Rattle.formatx.specs.declared.ast.Precision.TheVariants.{Star}
+use Rattle.formatx.specs.declared.ast.Placeholder.{Placeholder}
+use Rattle.formatx.specs.declared.ast.Segment.TheVariants.{Literal, EscapedOpen, Placeholder as Placed}
+
+abbrev implicit : ℕ → ℕ → Placeholder
+implicit i j = record { argument = Implicit; spec = no_options; span = span i j }
+
+-- a placeholder, a literal and an escape
+row_segments : Spells (codes "{}+{{") (Placed (implicit 0 2) ∷ Literal (span 2 3) ∷ EscapedOpen ∷ [])
+unfolding placeholder_of spec_of argument_of
+row_segments = (codes "+{{", (refl, refl), (codes "{{", (refl, omega arith, refl), ([], refl, refl)))
+
+-- the first faults of some sources
+abbrev Faulty : List ℕ → ℕ → ℕ → List ℕ → Type 0
+Faulty source start end message = HasFault source (unreadable (span start end) message)
+
+lone : Faulty (codes "a}") 1 2 (codes "unmatched `}`")
+lone = record { segments = Literal (span 0 1) ∷ []; rest = codes "}"; front = (codes "}", (refl, omega arith, refl), refl); first = inl (refl, refl) }
+
+fault1 : Faulty (codes "{") 1 1 (codes "unexpected end of format string")
+unfolding placeholder_of spec_of options_of argument_of count_of precision_of type_of chars encode_utf8
+fault1 = record { segments = []; rest = codes "{"; front = refl; first = inr (refl, refl) }
+
+fault2 : Faulty (codes "{0") 1 2 (codes "invalid placeholder argument")
+unfolding placeholder_of spec_of options_of argument_of count_of precision_of type_of chars encode_utf8
+fault2 = record { segments = []; rest = codes "{0"; front = refl; first = inr (refl, refl) }
+
+fault3 : Faulty (codes "{:0width$}") 3 4 (codes "unknown format type: `w`")
+unfolding placeholder_of spec_of options_of argument_of count_of precision_of type_of chars encode_utf8
+fault3 = record { segments = []; rest = codes "{:0width$}"; front = refl; first = inr (refl, refl) }
+
+fault4 : Faulty (codes "{:.") 2 3 (codes "expected precision after `.`")
+unfolding placeholder_of spec_of options_of argument_of count_of precision_of type_of chars encode_utf8
+fault4 = record { segments = []; rest = codes "{:."; front = refl; first = inr (refl, refl) }
+
+fault5 : Faulty (codes "{:.}") 2 3 (codes "expected precision value after `.`")
+unfolding placeholder_of spec_of options_of argument_of count_of precision_of type_of chars encode_utf8
+fault5 = record { segments = []; rest = codes "{:.}"; front = refl; first = inr (refl, refl) }
+
+fault6 : Faulty (codes "{:5") 0 3 (codes "unmatched `{`")
+unfolding placeholder_of spec_of options_of argument_of count_of precision_of type_of chars encode_utf8
+fault6 = record { segments = []; rest = codes "{:5"; front = refl; first = inr (refl, refl) }
+
+fault7 : Faulty (codes "{:18446744073709551616}") 2 22 (codes "invalid count: `18446744073709551616`")
+unfolding placeholder_of spec_of options_of argument_of count_of precision_of type_of chars encode_utf8
+fault7 = record { segments = []; rest = codes "{:18446744073709551616}"; front = refl; first = inr (refl, refl) }
+
+fault8 : Faulty (codes "{:18446744073709551616$}") 2 22 (codes "invalid count parameter: `18446744073709551616`")
+unfolding placeholder_of spec_of options_of argument_of count_of precision_of type_of chars encode_utf8
+fault8 = record { segments = []; rest = codes "{:18446744073709551616$}"; front = refl; first = inr (refl, refl) }
+
+fault9 : Faulty (codes "{99999999999999999999}") 1 21 (codes "invalid positional argument: `99999999999999999999`")
+unfolding placeholder_of spec_of options_of argument_of count_of precision_of type_of chars encode_utf8
+fault9 = record { segments = []; rest = codes "{99999999999999999999}"; front = refl; first = inr (refl, refl) }
+
+-- what a source of one placeholder prints over values, strictly
+abbrev printed : Placeholder → List Meaning → Result (List ℕ) Fault
+printed p values = placeholder_text (record { source = []; values = values; names = []; strict = true }) 0 p
 
 abbrev n : ℕ → Meaning
 n k = integer_meaning (pos k) k
 
-abbrev by_names : List ℕ → Result (List ℕ) Fault
-by_names source = formatted (record { source = source; values = str_meaning (codes "Hello") ∷ []; names = record { name = codes "greeting"; index = 0 } ∷ []; strict = false })
+signed : printed (record (implicit 0 6) { spec = record no_options { sign = Some Plus; zero_pad = true; width = Some (Number 5) } }) (n 42 ∷ []) ≡ Ok (codes "+0042")
+unfolding chars encode_utf8 numeral
+signed = refl
 
-abbrev lenient : List ℕ → List Meaning → Result (List ℕ) Fault
-lenient source values = formatted (record { source = source; values = values; names = []; strict = false })
+starred : printed (record (implicit 0 5) { spec = record no_options { precision = Some Star } }) (n 2 ∷ str_meaning (codes "abc") ∷ []) ≡ Ok (codes "ab")
+unfolding chars encode_utf8 numeral
+starred = refl
 
-row1 : formatted_by_position (codes "{} + {} = {}") (n 1 ∷ n 2 ∷ n 3 ∷ []) ≡ Ok (codes "1 + 2 = 3")
-unfolding segments_from placeholder_at spec_at options_at argument_at count_at precision_at type_at chars encode_utf8 numeral
-row1 = refl
+no_star : printed (record (implicit 0 5) { spec = record no_options { precision = Some Star } }) [] ≡ Err (unreadable (span 0 0) (codes "not enough arguments for `.*` precision"))
+no_star = refl
 
-row1b : formatted_by_position (codes "{1} {} {0} {}") (n 1 ∷ n 2 ∷ n 3 ∷ []) ≡ Ok (codes "2 1 1 2")
-unfolding segments_from placeholder_at spec_at options_at argument_at count_at precision_at type_at chars encode_utf8 numeral
-row1b = refl
+not_carried : printed (record (implicit 0 4) { spec = record no_options { format_type = LowerHex } }) (n 1 ∷ []) ≡ Err (unsupported LowerHex (span 0 4))
+not_carried = refl
 
-row2 : by_names (codes "{greeting} {name}!") ≡ Ok (codes "Hello !")
-unfolding segments_from placeholder_at spec_at options_at argument_at count_at precision_at type_at chars encode_utf8 numeral
-row2 = refl
+not_there : printed (record (implicit 0 4) { spec = record no_options { format_type = LowerHex } }) [] ≡ Err (missing (codes "0") (span 0 4))
+unfolding numeral
+not_there = refl
 
-row3 : formatted_by_position (codes "{:+05}") (n 42 ∷ []) ≡ Ok (codes "+0042")
-unfolding segments_from placeholder_at spec_at options_at argument_at count_at precision_at type_at chars encode_utf8 numeral
-row3 = refl
-
-row3b : formatted_by_position (codes "{:<05}|{0:^7}|{0:>4}|") (n 42 ∷ []) ≡ Ok (codes "42   |  42   |  42|")
-unfolding segments_from placeholder_at spec_at options_at argument_at count_at precision_at type_at chars encode_utf8 numeral
-row3b = refl
-
-row3c : formatted_by_position (codes "{:8x?}{0:#x?}{0:>8x?}") (n 255 ∷ []) ≡ Ok (codes "ffff      ff")
-unfolding segments_from placeholder_at spec_at options_at argument_at count_at precision_at type_at chars encode_utf8 numeral
-row3c = refl
-
-row4 : formatted_by_position (codes "{:.*}") (n 2 ∷ str_meaning (codes "abc") ∷ []) ≡ Ok (codes "ab")
-unfolding segments_from placeholder_at spec_at options_at argument_at count_at precision_at type_at chars encode_utf8 numeral
-row4 = refl
-
-row4b : lenient (codes "{:.*}") [] ≡ Err (unreadable (span 0 0) (codes "not enough arguments for `.*` precision"))
-unfolding segments_from placeholder_at spec_at options_at argument_at count_at precision_at type_at chars encode_utf8 numeral
-row4b = refl
-
-row5 : formatted_by_position (codes "{:x}") (n 1 ∷ []) ≡ Err (unsupported LowerHex (span 0 4))
-unfolding segments_from placeholder_at spec_at options_at argument_at count_at precision_at type_at chars encode_utf8 numeral
-row5 = refl
-
-row6 : segments_of (codes "{:0width$}") ≡ Err (unreadable (span 3 4) (codes "unknown format type: `w`"))
-unfolding segments_from placeholder_at spec_at options_at argument_at count_at precision_at type_at chars encode_utf8 numeral
-row6 = refl
-
-row6b : segments_of (codes "{0") ≡ Err (unreadable (span 1 2) (codes "invalid placeholder argument"))
-unfolding segments_from placeholder_at spec_at options_at argument_at count_at precision_at type_at chars encode_utf8 numeral
-row6b = refl
-
-row6c : segments_of (codes "{") ≡ Err (unreadable (span 1 1) (codes "unexpected end of format string"))
-unfolding segments_from placeholder_at spec_at options_at argument_at count_at precision_at type_at chars encode_utf8 numeral
-row6c = refl
-
-row6d : segments_of (codes "a}") ≡ Err (unreadable (span 1 2) (codes "unmatched `}`"))
-unfolding segments_from placeholder_at spec_at options_at argument_at count_at precision_at type_at chars encode_utf8 numeral
-row6d = refl
-
-row6e : segments_of (codes "{{}}") ≡ Ok (EscapedOpen ∷ EscapedClose ∷ [])
-unfolding segments_from placeholder_at spec_at options_at argument_at count_at precision_at type_at chars encode_utf8 numeral
-row6e = refl
-
-row7 : formatted_by_position (codes "{:?}") (str_meaning (97 ∷ 34 ∷ 0xc3 ∷ 0xa9 ∷ []) ∷ []) ≡ Ok (34 ∷ 97 ∷ 92 ∷ 34 ∷ 0xc3 ∷ 0xa9 ∷ 34 ∷ [])
-unfolding segments_from placeholder_at spec_at options_at argument_at count_at precision_at type_at chars encode_utf8 numeral
-row7 = refl
-
-row8 : formatted_by_position (codes "{:" ++ 0xc3 ∷ 0xa9 ∷ codes "<3}{:00$}") (n 1 ∷ n 7 ∷ []) ≡ Ok (49 ∷ 0xc3 ∷ 0xa9 ∷ 0xc3 ∷ 0xa9 ∷ codes "7")
-unfolding segments_from placeholder_at spec_at options_at argument_at count_at precision_at type_at chars encode_utf8 numeral
-row8 = refl
-
-row9 : segments_of (123 ∷ 58 ∷ 0xc3 ∷ 0xa9 ∷ 125 ∷ []) ≡ Err (unreadable (span 2 3) (codes "unknown format type: `" ++ 0xc3 ∷ 0x83 ∷ codes "`"))
-unfolding segments_from placeholder_at spec_at options_at argument_at count_at precision_at type_at chars encode_utf8 numeral
-row9 = refl
+quoted_text : printed (record (implicit 0 4) { spec = record no_options { format_type = Debug } }) (str_meaning (97 ∷ 34 ∷ []) ∷ []) ≡ Ok (codes "\"a\\\"\"")
+unfolding chars encode_utf8
+quoted_text = refl

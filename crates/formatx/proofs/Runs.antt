@@ -1,13 +1,13 @@
 -- The longest run of bytes that pass a test, as `position` finds its end, and the numbers that texts write.
-use Rattle.std.proofs.Common.{◌≡◌, ℕ, suc, ◌+◌, ◌<◌, ◌≤◌, Bool, true, false, cond, not, ltb, List, [], ◌∷◌, length, drop, get_or, zero, add-zero, add-one, add-suc, Option, Some, None, Result, Ok, Err, refl, arith, ap, sym, unwrap_or}
+use Rattle.std.proofs.Common.{◌≡◌, ℕ, suc, ◌+◌, ◌<◌, ◌≤◌, Bool, true, false, cond, not, ltb, List, [], ◌∷◌, length, zero, add-one, Option, Some, None, Result, Ok, Err, refl, arith, ap, sym, unwrap_or, ◌⊎◌, inl, inr}
 use Rattle.std.specs.List.{prefix_len}
 use Rattle.std.specs.Result.{result_ok}
+use Rattle.std.proofs.lemmas.Bool.{cases_lt}
 use Rattle.std.proofs.lemmas.Bool.Decides.{nat_tests}
 use Rattle.std.specs.Str.{IsUtf8, IsCharBoundary}
 use Rattle.std.specs.Str.Parse.{AllDigits, ParsesUnsigned, without_leading_plus}
-use Rattle.std.proofs.lemmas.Str.{IsCharBoundary-after_ascii}
-use Rattle.std.proofs.lemmas.List.{get_or-drop, length-drop}
-use Rattle.std.proofs.lemmas.List.Sums.{prefix_len_passes, prefix_len-le-length}
+use Rattle.std.proofs.lemmas.Str.{IsCharBoundary-start, IsCharBoundary-end, IsCharBoundary-after_ascii, IsCharBoundary-before_ascii}
+use Rattle.std.proofs.lemmas.List.Sums.{prefix_len_passes, prefix_len_stops, prefix_len-le-length}
 use Rattle.formatx.specs.Words.{all_digits, usize_of}
 
 -- a run of what doesn't fail is a run of what passes
@@ -25,17 +25,23 @@ run_from_position p xs r e =
     grind (arith, nat_tests)
 
 -- a run of ASCII ends between characters
-pub run_boundary : (p : ℕ → Bool) (bs : List ℕ) (i : ℕ) → ((x : ℕ) → p x ≡ true → x < 128) → IsUtf8 bs → i ≤ length bs → IsCharBoundary bs i → IsCharBoundary bs (i + prefix_len p (drop i bs))
-run_boundary p bs i ascii utf8 inside start = by_len (prefix_len p (drop i bs)) refl
+pub run_boundary : (p : ℕ → Bool) (bs : List ℕ) → ((x : ℕ) → p x ≡ true → x < 128) → IsUtf8 bs → IsCharBoundary bs (prefix_len p bs)
+run_boundary p bs ascii utf8 = by_len (prefix_len p bs) refl
   where
-    by_len : (n : ℕ) → prefix_len p (drop i bs) ≡ n → IsCharBoundary bs (i + n)
-    by_len zero e = rw add-zero start
+    by_len : (n : ℕ) → prefix_len p bs ≡ n → IsCharBoundary bs n
+    by_len zero e = IsCharBoundary-start bs utf8
     by_len (suc n) e =
-        let most = prefix_len-le-length p (drop i bs) in
-        let passes = prefix_len_passes p (drop i bs) n 0 (omega arith) in
-        let there : get_or bs (i + n) 0 < 128 = rw get_or-drop at (ascii _ passes) in
-        let long = length-drop i bs in
-        rw add-suc (rw (sym (add-one (i + n))) (IsCharBoundary-after_ascii bs (i + n) utf8 (omega arith) there))
+        let most = prefix_len-le-length p bs in
+        let passes = prefix_len_passes p bs n 0 (omega arith) in
+        rw (sym (add-one n)) (IsCharBoundary-after_ascii bs n utf8 (omega arith) (ascii _ passes))
+
+-- a run that only ASCII ends, ends between characters
+pub run_boundary_before : (p : ℕ → Bool) (bs : List ℕ) → ((x : ℕ) → p x ≡ false → x < 128) → IsCharBoundary bs (prefix_len p bs)
+run_boundary_before p bs ascii = by_end (cases_lt (prefix_len p bs) (length bs))
+  where
+    by_end : (prefix_len p bs < length bs) ⊎ (length bs ≤ prefix_len p bs) → IsCharBoundary bs (prefix_len p bs)
+    by_end (inl inside) = IsCharBoundary-before_ascii bs (prefix_len p bs) inside (ascii _ (prefix_len_stops p bs 0 inside))
+    by_end (inr past) = let end : prefix_len p bs ≡ length bs = omega (arith, prefix_len-le-length p bs) in rw end (IsCharBoundary-end bs)
 
 -- the tests of a text of digits
 all_digits-true : (ds : List ℕ) → AllDigits 10 ds → all_digits ds ≡ true

@@ -6,7 +6,8 @@ use Rattle.std.specs.Char.{IsScalar, encode_utf8}
 use Rattle.std.proofs.lemmas.Bool.Decides.{nat_tests}
 use Rattle.std.proofs.lemmas.List.{length-append}
 use Rattle.std.proofs.lemmas.Str.{chars-append, chars-encodes, scalars-chars, IsUtf8-append, IsUtf8-drop, IsCharBoundary-after_ascii}
-use Rattle.formatx.specs.Field.{Body, aligned, body_of, by_shape, copies, cut, gap_of, is_aligned, laid_out, number_body, padding_of, sign_text, shaped}
+use Rattle.padding.specs.Field.{fills}
+use Rattle.formatx.specs.Field.{Body, aligned, body_of, by_shape, cut, gap_of, is_aligned, laid_out, number_body, padding_of, sign_text, shaped}
 use Rattle.formatx.specs.Laws.{FieldsAreWide}
 use Rattle.formatx.specs.declared.ast.FormatSpec.{FormatSpec}
 use Rattle.formatx.specs.declared.ast.Align.{Align}
@@ -47,11 +48,11 @@ length-replicate : (n c : ℕ) → length (replicate n c) ≡ n
 length-replicate zero c = refl
 length-replicate (suc n) c = ap suc (length-replicate n c)
 
-copies-IsUtf8 : (n c : ℕ) → IsScalar c → IsUtf8 (copies n c)
-copies-IsUtf8 n c h = (replicate n c, (scalars-replicate n c h, refl))
+fills-IsUtf8 : (n c : ℕ) → IsScalar c → IsUtf8 (fills n c)
+fills-IsUtf8 n c h = (replicate n c, (scalars-replicate n c h, refl))
 
-copies-length : (n c : ℕ) → IsScalar c → length (chars (copies n c)) ≡ n
-copies-length n c h = ap length (chars-encodes (replicate n c) (scalars-replicate n c h)) ∙ length-replicate n c
+fills-length : (n c : ℕ) → IsScalar c → length (chars (fills n c)) ≡ n
+fills-length n c h = ap length (chars-encodes (replicate n c) (scalars-replicate n c h)) ∙ length-replicate n c
 
 -- a body whose parts are texts, with a sign of ASCII
 record IsText (body : Body) : Type 0 where
@@ -62,18 +63,18 @@ record IsText (body : Body) : Type 0 where
 laid_out-length : (c : ℕ) (p : Padding) (body : Body) → IsScalar c → IsText body → length (chars (laid_out c p body)) ≡ p.left + length body.sign + p.zeros + length (chars body.rest) + p.right
 laid_out-length c p body scalar text =
     let zeros : IsScalar 48 = refl in
-    let a = copies-IsUtf8 p.left c scalar in
-    let z = copies-IsUtf8 p.zeros 48 zeros in
-    let ab = IsUtf8-append (copies p.left c) body.sign a text.sign in
-    let abz = IsUtf8-append (copies p.left c ++ body.sign) (copies p.zeros 48) ab z in
-    let abzr = IsUtf8-append (copies p.left c ++ body.sign ++ copies p.zeros 48) body.rest abz text.rest in
-    let e1 = chars-append (copies p.left c ++ body.sign ++ copies p.zeros 48 ++ body.rest) (copies p.right c) abzr in
-    let e2 = chars-append (copies p.left c ++ body.sign ++ copies p.zeros 48) body.rest abz in
-    let e3 = chars-append (copies p.left c ++ body.sign) (copies p.zeros 48) ab in
-    let e4 = chars-append (copies p.left c) body.sign a in
-    let l1 = copies-length p.left c scalar in
-    let l2 = copies-length p.zeros 48 zeros in
-    let l3 = copies-length p.right c scalar in
+    let a = fills-IsUtf8 p.left c scalar in
+    let z = fills-IsUtf8 p.zeros 48 zeros in
+    let ab = IsUtf8-append (fills p.left c) body.sign a text.sign in
+    let abz = IsUtf8-append (fills p.left c ++ body.sign) (fills p.zeros 48) ab z in
+    let abzr = IsUtf8-append (fills p.left c ++ body.sign ++ fills p.zeros 48) body.rest abz text.rest in
+    let e1 = chars-append (fills p.left c ++ body.sign ++ fills p.zeros 48 ++ body.rest) (fills p.right c) abzr in
+    let e2 = chars-append (fills p.left c ++ body.sign ++ fills p.zeros 48) body.rest abz in
+    let e3 = chars-append (fills p.left c ++ body.sign) (fills p.zeros 48) ab in
+    let e4 = chars-append (fills p.left c) body.sign a in
+    let l1 = fills-length p.left c scalar in
+    let l2 = fills-length p.zeros 48 zeros in
+    let l3 = fills-length p.right c scalar in
     let s = text.short in
     rw (e1, e2, e3, e4) (simp length-append (omega arith))
 
@@ -108,8 +109,7 @@ number-IsText sign (c ∷ cs) h = by_test (eqb c 45) refl
         let ascii : get_or (c ∷ cs) 0 0 < 128 = omega (arith, minus) in
         let inside : 0 < length (c ∷ cs) = omega arith in
         let rest : IsUtf8 (drop 1 (c ∷ cs)) = IsUtf8-drop (c ∷ cs) 1 h (IsCharBoundary-after_ascii (c ∷ cs) 0 h inside ascii) in
-        let there : IsText (record { sign = c ∷ []; rest = drop 1 (c ∷ cs) }) = rw minus (minus-IsText (drop 1 (c ∷ cs)) rest) in
-        rw e there
+        rw e (minus-IsText (drop 1 (c ∷ cs)) rest)
     by_test false e = rw e (signs-IsText sign (c ∷ cs) h)
 
 body-IsText : (shape : Shape) (sign : Option Sign) (precision : Option ℕ) (text : List ℕ) → IsUtf8 text → IsText (body_of shape sign precision text)
@@ -125,9 +125,9 @@ shaped-length : (spec : FormatSpec) (shape : Shape) (width : ℕ) (precision : O
 shaped-length spec shape width precision text fill utf8 h =
     let body = body_of shape spec.sign precision text in
     let gap = gap_of (Some width) body in
-    let fills = padding-Fills spec shape gap h in
+    let filled = padding-Fills spec shape gap h in
     let long = laid_out-length (unwrap_or spec.fill 32) (padding_of spec shape gap) body (fill-IsScalar spec.fill fill) (body-IsText shape spec.sign precision text utf8) in
-    rw long (omega (arith, fills))
+    rw long (omega (arith, filled))
 
 pub fields_are_wide : FieldsAreWide
 fields_are_wide spec m width precision e fill utf8 h = rw e (shaped-length spec m.display_shape width precision m.display fill utf8 h)

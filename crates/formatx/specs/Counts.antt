@@ -1,7 +1,7 @@
 -- Widths and precisions: a number of the template, or one that a value holds.
-use Rattle.std.specs.Prelude.{ℕ, ◌+◌, false, List, ◌++◌, codes, slice_get, Option, Some, None, Result, Ok, ok_or}
+use Rattle.std.specs.Prelude.{ℕ, false, List, ◌++◌, codes, slice_get, Option, Some, None, Result, Ok, ok_or}
 use Rattle.numerals.specs.Numeral.{numeral}
-use Rattle.formatx.specs.Fault.{Fault, unreadable, missing, ◌>>=◌, span, quoting}
+use Rattle.formatx.specs.Fault.{Fault, unreadable, ◌>>=◌, span, quoting}
 use Rattle.formatx.specs.Words.{usize_of}
 use Rattle.formatx.specs.Values.{Meaning}
 use Rattle.formatx.specs.declared.ast.Count.{Count}

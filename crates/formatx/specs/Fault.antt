@@ -1,5 +1,5 @@
 -- What can be wrong with a template or its values, as plain data, and how an `Error` tells it.
-use Rattle.std.specs.Prelude.{◌≡◌, ℕ, List, ◌++◌, codes, string_bytes, decimal, Result, Ok, Err, ⊤}
+use Rattle.std.specs.Prelude.{◌≡◌, ℕ, ◌-◌, List, ◌++◌, length, codes, string_bytes, decimal, ◌⊎◌, Result, Ok, Err}
 use Rattle.formatx.specs.declared.ast.Span.{Span}
 use Rattle.formatx.specs.declared.ast.FormatType.{FormatType}
 use Rattle.formatx.specs.declared.ast.FormatType.TheVariants.{Octal, LowerHex, UpperHex, Binary, LowerExp, UpperExp, Pointer}
@@ -22,25 +22,24 @@ abbrev pub ◌>>=◌ : {A B : Type 0} → Result A Fault → (A → Result B Fau
 abbrev pub span : ℕ → ℕ → Span
 span start end = record { start = start; end = end }
 
--- the message, about the bytes from `start` up to `end`
-abbrev pub unreadable_at : {A : Type 0} → ℕ → ℕ → List ℕ → Result A Fault
-unreadable_at start end message = Err (unreadable (span start end) message)
+-- a source of that size ends with both texts: the bytes where the first begins, up to where the second does
+abbrev pub between : ℕ → List ℕ → List ℕ → Span
+between size from to = span (size - length from) (size - length to)
 
 -- the text between two backquotes, after the words
 abbrev pub quoting : List ℕ → List ℕ → List ℕ
 quoting words text = words ++ codes "`" ++ text ++ codes "`"
 
--- an error that isn't want of memory tells the fault that the result is
-abbrev pub Tells : {A : Type 0} → Error → Result A Fault → Type 0
-Tells (Parse s message) r = r ≡ Err (unreadable s (string_bytes message))
-Tells (MissingArgument name s) r = r ≡ Err (missing (string_bytes name) s)
-Tells (UnsupportedTrait t s) r = r ≡ Err (unsupported t s)
-Tells NoMemory r = ⊤
+-- the error tells the fault
+abbrev pub IsFault : Error → Fault → Type 0
+IsFault (Parse s message) fault = fault ≡ unreadable s (string_bytes message)
+IsFault (MissingArgument name s) fault = fault ≡ missing (string_bytes name) s
+IsFault (UnsupportedTrait t s) fault = fault ≡ unsupported t s
+IsFault NoMemory fault = ⊥
 
--- the answer is what the definition gives, or there was no memory
-abbrev pub Answers : {A : Type 0} → Result A Error → Result A Fault → Type 0
-Answers (Ok a) r = r ≡ Ok a
-Answers (Err e) r = Tells e r
+-- the error tells a fault of which this holds, or there was no memory
+abbrev pub Tells : Error → (Fault → Type 0) → Type 0
+Tells e P = ((fault : Fault) × P fault × IsFault e fault) ⊎ (e ≡ NoMemory)
 
 -- the name of a type's trait
 abbrev pub trait_text : FormatType → List ℕ

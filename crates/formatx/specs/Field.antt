@@ -1,6 +1,8 @@
 -- The text of one value under a specification whose width and precision are numbers.
-use Rattle.std.specs.Prelude.{ℕ, ◌+◌, ◌-◌, ◌/◌, Bool, true, false, ◌||◌, List, [], ◌++◌, length, take, drop, slice_index, codes, chars, encode_utf8_all, replicate, ◌==◌, if◌then◌else◌, is_some, Option, Some, None, unwrap_or}
+use Rattle.std.specs.Prelude.{ℕ, ◌+◌, ◌-◌, ◌/◌, Bool, true, false, ◌||◌, List, [], ◌++◌, length, take, drop, codes, chars, encode_utf8_all, if◌then◌else◌, is_some, Option, Some, None, unwrap_or}
 use Rattle.std.specs.Str.{byte}
+use Rattle.padding.specs.Field.{fills}
+use Rattle.formatx.specs.Words.{begins}
 use Rattle.formatx.specs.Values.{Meaning}
 use Rattle.formatx.specs.declared.format.Padding.{Padding}
 use Rattle.formatx.specs.declared.ast.FormatSpec.{FormatSpec}
@@ -28,7 +30,7 @@ sign_text None = []
 -- a number's sign and its digits
 abbrev pub number_body : Option Sign → List ℕ → Body
 number_body sign text =
-    if slice_index text 0 == byte "-" then record { sign = take 1 text; rest = drop 1 text } else record { sign = sign_text sign; rest = text }
+    if begins text (byte "-") then record { sign = codes "-"; rest = drop 1 text } else record { sign = sign_text sign; rest = text }
 
 -- the first characters of a text, as many as the precision allows
 abbrev pub cut : Option ℕ → List ℕ → List ℕ
@@ -68,14 +70,10 @@ is_aligned spec = is_some spec.fill || is_some spec.align
 abbrev pub padding_of : FormatSpec → Shape → ℕ → Padding
 padding_of spec shape gap = if is_aligned spec then aligned spec.align gap else by_shape shape spec.zero_pad gap
 
--- n copies of a character
-abbrev pub copies : ℕ → ℕ → List ℕ
-copies n c = encode_utf8_all (replicate n c)
-
 -- a body with its padding
 abbrev pub laid_out : ℕ → Padding → Body → List ℕ
 laid_out fill padding body =
-    copies padding.left fill ++ body.sign ++ copies padding.zeros (byte "0") ++ body.rest ++ copies padding.right fill
+    fills padding.left fill ++ body.sign ++ fills padding.zeros (byte "0") ++ body.rest ++ fills padding.right fill
 
 -- a body, padded to the width
 abbrev pub padded : FormatSpec → Shape → Option ℕ → Body → List ℕ

@@ -1,15 +1,14 @@
 -- Laws of templates, each carried by a function of the crate with an empty body.
-use Rattle.std.specs.Prelude.{◌≡◌, ◌↔◌, ◌≤◌, ◌+◌, ℕ, Bool, true, false, List, [], ◌∷◌, length, chars, IsSome, IfSome, IsUtf8, Option, Some, None, Ok, Err, ⊤}
+use Rattle.std.specs.Prelude.{◌≡◌, ◌↔◌, ◌≤◌, ◌+◌, ℕ, Bool, true, false, List, [], ◌∷◌, length, chars, IsSome, IfSome, IsUtf8, Option, Some, None, Result, Ok, Err, ⊤}
 use Rattle.std.specs.Char.{IsScalar}
-use Rattle.formatx.specs.Fault.{missing}
-use Rattle.formatx.specs.Segments.{segments_of}
-use Rattle.formatx.specs.Grammar.{Spells}
+use Rattle.formatx.specs.Fault.{Fault, missing}
+use Rattle.formatx.specs.Grammar.{Reads, Spells}
 use Rattle.formatx.specs.Values.{Meaning}
 use Rattle.formatx.specs.Field.{field_text}
 use Rattle.formatx.specs.Scene.{Scene}
 use Rattle.formatx.specs.Counts.{precision_of}
 use Rattle.formatx.specs.Arguments.{argument_name, precision_takes, value_at}
-use Rattle.formatx.specs.Text.{formatted, segment_takes, segment_text}
+use Rattle.formatx.specs.Text.{Prints, segment_takes, segment_text}
 use Rattle.formatx.specs.declared.ast.FormatSpec.{FormatSpec}
 use Rattle.formatx.specs.declared.ast.FormatType.TheVariants.{Display}
 use Rattle.formatx.specs.declared.ast.Placeholder.{Placeholder}
@@ -35,8 +34,8 @@ with_strict scene strict = record { source = scene.source; values = scene.values
 
 -- strict and lenient printing agree where no placeholder lacks its value
 abbrev pub FinishesAgree : Type 0
-FinishesAgree = (scene : Scene) (segments : List Segment) → segments_of scene.source ≡ Ok segments → AllHaveValues scene 0 segments
-    → formatted (with_strict scene true) ≡ formatted (with_strict scene false)
+FinishesAgree = (scene : Scene) (segments : List Segment) (r : Result (List ℕ) Fault) → Spells scene.source segments → AllHaveValues scene 0 segments
+    → (Prints (with_strict scene true) r ↔ Prints (with_strict scene false) r)
 
 -- where a placeholder's value isn't there, and its precision is, a lenient finish has the empty text in its place, and a
 -- strict one refuses it by its name and its span
@@ -51,10 +50,6 @@ abbrev pub FieldsAreWide : Type 0
 FieldsAreWide = (spec : FormatSpec) (m : Meaning) (width : ℕ) (precision : Option ℕ) → spec.format_type ≡ Display → IfSome spec.fill IsScalar
     → IsUtf8 m.display → ¬ (m.display_shape ≡ Raw) → width ≤ length (chars (field_text spec m (Some width) precision))
 
--- a template is read into segments exactly where its text spells them
-abbrev pub ReadsTheGrammar : Type 0
-ReadsTheGrammar = (source : List ℕ) (segments : List Segment) → IsUtf8 source → (segments_of source ≡ Ok segments ↔ Spells source segments)
-
--- a text spells the segments of one template at most
-abbrev pub HasOneTree : Type 0
-HasOneTree = (source : List ℕ) (these those : List Segment) → IsUtf8 source → Spells source these → Spells source those → these ≡ those
+-- reading a source gives one thing: the segments of one template or one first fault, and never both
+abbrev pub HasOneReading : Type 0
+HasOneReading = (source : List ℕ) (this that : Result (List Segment) Fault) → Reads source this → Reads source that → this ≡ that

@@ -1,9 +1,9 @@
 pub mod Fault
 pub mod Words
 pub mod Spans
-pub mod Grammar
 pub mod Options
-pub mod Segments
+pub mod Placeholders
+pub mod Grammar
 pub mod Values
 pub mod Field
 pub mod Scene
@@ -12,3 +12,4 @@ pub mod Arguments
 pub mod Text
 pub mod Templates
 pub mod Laws
+pub mod Inner

@@ -1,9 +1,7 @@
 -- What a template is rendered over: its source, the values by position, and the names of some positions.
-use Rattle.std.specs.Prelude.{ℕ, Bool, List, [], ◌∷◌, map, string_bytes, bytes_eq, if◌then◌else◌, Option, Some, None}
-use Rattle.formatx.specs.Words.{text_between}
+use Rattle.std.specs.Prelude.{ℕ, Bool, List, [], ◌∷◌, map, slice_range, string_bytes, bytes_eq, if◌then◌else◌, Option, Some, None}
 use Rattle.formatx.specs.Values.{Meaning}
 use Rattle.formatx.specs.declared.value.Name.{Name}
-use Rattle.formatx.specs.declared.format.Input.{Input}
 use Rattle.formatx.specs.declared.ast.Span.{Span}
 
 -- a name, and the position that it stands for
@@ -27,13 +25,9 @@ abbrev pub scene_over : {V : Type 0} → (V → Meaning) → List ℕ → List V
 scene_over meaning source args named strict =
     record { source = source; values = map meaning args; names = map named_position named; strict = strict }
 
--- the scene of a call whose parameters are kept together
-abbrev pub scene_of : {V : Type 0} → (V → Meaning) → Input V → Scene
-scene_of meaning input = scene_over meaning input.source.now input.args.now input.named.now input.strict
-
 -- the part of the source that a span covers
 abbrev pub covered : List ℕ → Span → List ℕ
-covered source s = text_between source s.start s.end
+covered source s = slice_range source s.start s.end
 
 -- the position of the first equal name
 abbrev pub position_of : List ℕ → List NamedPosition → Option ℕ

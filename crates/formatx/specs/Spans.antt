@@ -1,5 +1,5 @@
 -- Where the parts of a template stand in its source, and what stands for no options.
-use Rattle.std.specs.Prelude.{◌≡◌, ◌≤◌, ◌<◌, ℕ, ◌+◌, List, [], ◌∷◌, All, None, false, MatchOption, ⊤}
+use Rattle.std.specs.Prelude.{◌≡◌, ◌≤◌, ℕ, ◌+◌, List, [], ◌∷◌, All, None, false, MatchOption, ⊤}
 use Rattle.std.specs.Str.{IsCharBoundary}
 use Rattle.formatx.specs.declared.ast.Span.{Span}
 use Rattle.formatx.specs.declared.ast.FormatSpec.{FormatSpec}
@@ -66,13 +66,6 @@ StandsAt i j (Literal s) = (s.start ≡ i) × (s.end ≡ j)
 StandsAt i j EscapedOpen = j ≡ i + 2
 StandsAt i j EscapedClose = j ≡ i + 2
 StandsAt i j (Placed p) = (p.span.start ≡ i) × (p.span.end ≡ j)
-
--- the segment stands at place i, and ends between characters at place j
-pub record IsPlaced (source : List ℕ) (i j : ℕ) (segment : Segment) : Type 0 where
-  pub fits : SegmentFits source segment
-  pub at : StandsAt i j segment
-  pub to : IsCharBoundary source j
-  pub grows : i < j
 
 -- the segments stand one right after another, from place i up to the end of the source
 abbrev pub Tiles : ℕ → ℕ → List Segment → Type 0

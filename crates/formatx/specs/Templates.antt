@@ -1,8 +1,6 @@
 -- Templates and renderers as callers see them.
-use Rattle.std.specs.Prelude.{◌≡◌, map, ℕ, List, [], ◌∷◌, ◌++◌, Bool, Result, Ok, Err}
-use Rattle.formatx.specs.Fault.{Fault}
-use Rattle.formatx.specs.Segments.{segments_of}
-use Rattle.formatx.specs.Spans.{Fits}
+use Rattle.std.specs.Prelude.{◌≡◌, map, ℕ, List, [], ◌∷◌, ◌++◌, Bool}
+use Rattle.formatx.specs.Grammar.{Spells}
 use Rattle.formatx.specs.Values.{Meaning}
 use Rattle.formatx.specs.Scene.{NamedPosition, Scene, covered}
 use Rattle.formatx.specs.declared.ast.Argument.{Argument}
@@ -19,11 +17,6 @@ pub record Filling (V : Type 0) : Type 0 where
 -- what a renderer prints over, whose values mean what `meaning` says
 abbrev pub filled : {V : Type 0} → (V → Meaning) → Filling V → Bool → Scene
 filled meaning r strict = record { source = r.source; values = map meaning r.values; names = r.names; strict = strict }
-
--- the segments were read from the source
-pub record IsParsed (source : List ℕ) (segments : List Segment) : Type 0 where
-  pub read : segments_of source ≡ Ok segments
-  pub fits : Fits source segments
 
 -- the name of an argument, if it has one
 abbrev pub argument_names : List ℕ → Argument → List (List ℕ)
@@ -43,11 +36,6 @@ abbrev pub names_in : List ℕ → List Segment → List (List ℕ)
 names_in source [] = []
 names_in source (s ∷ ss) = segment_names source s ++ names_in source ss
 
--- the names in a template
-abbrev pub names_or_none : List ℕ → Result (List Segment) Fault → List (List ℕ)
-names_or_none source (Ok segments) = names_in source segments
-names_or_none source (Err fault) = []
-
--- the names in a source, which are none outside the grammar
-abbrev pub names_of : List ℕ → List (List ℕ)
-names_of source = names_or_none source (segments_of source)
+-- these are the names in a source: those in the segments that it spells
+abbrev pub HasNames : List ℕ → List (List ℕ) → Type 0
+HasNames source names = (segments : List Segment) × Spells source segments × (names ≡ names_in source segments)

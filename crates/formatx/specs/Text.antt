@@ -1,7 +1,7 @@
 -- What a template prints over values: the text of each segment in order, up to the first fault.
-use Rattle.std.specs.Prelude.{◌≡◌, ℕ, ◌+◌, true, List, [], ◌∷◌, ◌++◌, codes, if◌then◌else◌, Option, Some, None, Result, Ok, Err}
+use Rattle.std.specs.Prelude.{◌≡◌, ℕ, ◌+◌, List, [], ◌∷◌, ◌++◌, codes, if◌then◌else◌, Option, Some, None, Result, Ok, Err}
 use Rattle.formatx.specs.Fault.{Fault, missing, unsupported, ◌>>=◌}
-use Rattle.formatx.specs.Segments.{segments_of}
+use Rattle.formatx.specs.Grammar.{Spells}
 use Rattle.formatx.specs.Values.{Meaning}
 use Rattle.formatx.specs.Field.{field_text}
 use Rattle.formatx.specs.declared.error.Error.{Error}
@@ -82,13 +82,9 @@ text_unless text (Some fault) = Err fault
 abbrev pub whole : Outcome → Result (List ℕ) Fault
 whole o = text_unless o.text o.fault
 
--- the text of a source over a list of values, or the first fault
-abbrev pub formatted : Scene → Result (List ℕ) Fault
-formatted scene = segments_of scene.source >>= λ segments. whole (rendered scene 0 segments)
-
--- the same by position, strict, and without names
-abbrev pub formatted_by_position : List ℕ → List Meaning → Result (List ℕ) Fault
-formatted_by_position source values = formatted (record { source = source; values = values; names = []; strict = true })
+-- a source prints this over a scene: what the segments that it spells print
+abbrev pub Prints : Scene → Result (List ℕ) Fault → Type 0
+Prints scene r = (segments : List Segment) × Spells scene.source segments × (whole (rendered scene 0 segments) ≡ r)
 
 -- what an output holds after a refusal: the text before the fault, or where there was no memory a front of the text
 abbrev pub Holds : Error → List ℕ → List ℕ → List ℕ → Type 0
@@ -100,3 +96,7 @@ Holds (UnsupportedTrait t s) old new text = new ≡ old ++ text
 -- a text was appended, which is what the definition gives
 abbrev pub Appends : Result (List ℕ) Fault → List ℕ → List ℕ → Type 0
 Appends r old new = (text : List ℕ) × (r ≡ Ok text) × (new ≡ old ++ text)
+
+-- a text was appended, which is what the source prints over the scene
+abbrev pub AppendsPrinted : Scene → List ℕ → List ℕ → Type 0
+AppendsPrinted scene old new = (text : List ℕ) × Prints scene (Ok text) × (new ≡ old ++ text)

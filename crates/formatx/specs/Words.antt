@@ -1,25 +1,17 @@
--- The words of a template: single characters, digits, identifiers, and the numbers that digits write.
-use Rattle.std.specs.Prelude.{ℕ, ◌+◌, ◌-◌, ◌^◌, Bool, true, ◌&&◌, ◌||◌, not, List, [], ◌∷◌, length, slice_index, take, drop, ◌==◌, nat_lt, nat_le, if◌then◌else◌, Option, Some, None}
+-- The words of a template: single bytes, runs of bytes, and the numbers that digits write.
+use Rattle.std.specs.Prelude.{ℕ, ◌^◌, Bool, true, ◌&&◌, ◌||◌, not, List, [], ◌∷◌, length, slice_index, drop, ◌==◌, nat_lt, if◌then◌else◌, Option, Some, None}
 use Rattle.std.specs.List.{prefix_len}
 use Rattle.std.specs.Char.{digit_value, is_ascii_alphabetic, is_ascii_alphanumeric}
 use Rattle.std.specs.Str.{byte}
 use Rattle.std.specs.Str.Parse.{digits_value, without_leading_plus}
 
--- whether byte c, which isn't 0, stands at place i; no byte stands at the end
-abbrev pub has : List ℕ → ℕ → ℕ → Bool
-has source i c = slice_index source i == c
+-- whether the text begins with byte c, which isn't 0
+abbrev pub begins : List ℕ → ℕ → Bool
+begins text c = slice_index text 0 == c
 
--- whether the text ends before place i
-abbrev pub ends_at : List ℕ → ℕ → Bool
-ends_at source i = nat_le (length source) i
-
--- where the longest run of such bytes ends that begins at place i
-abbrev pub run_end : (ℕ → Bool) → List ℕ → ℕ → ℕ
-run_end p source i = i + prefix_len p (drop i source)
-
--- the bytes from place i up to place j
-abbrev pub text_between : List ℕ → ℕ → ℕ → List ℕ
-text_between source i j = take (j - i) (drop i source)
+-- what follows the longest run of such bytes in front
+abbrev pub after : (ℕ → Bool) → List ℕ → List ℕ
+after p text = drop (prefix_len p text) text
 
 -- a byte that is no brace
 abbrev pub is_plain : ℕ → Bool

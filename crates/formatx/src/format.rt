@@ -1,12 +1,12 @@
 // Prints a parsed template over values.
-ghost use Rattle.std.specs.Prelude.{◌≡◌, ◌++◌, ◌+◌, ◌*◌, ◌<◌, ◌≤◌, ◌↔◌, IfErr, IfOk, IfSome, MatchOption, OnErr, OnOk, ⊤, IsFalse, ◌^◌, false, Some, None, length, map, chars, string_bytes, string_len, option_map, option_copied, IsCharBoundary};
-ghost use Rattle.std.specs.Char.{len_utf8};
-ghost use Rattle.std.specs.String.{string_capacity};
+ghost use Rattle.std.specs.Prelude.{◌≡◌, ◌++◌, ◌+◌, ◌<◌, ◌≤◌, IfErr, IfOk, MatchOption, OnErr, OnOk, ⊤, IsFalse, ◌^◌, false, Some, None, Err, length, map, slice_get, string_bytes, option_map, option_copied};
 ghost use Rattle.numerals.specs.Numeral.{numeral};
-ghost use Rattle.formatx.specs.Fault.{Answers, Tells};
+ghost use Rattle.formatx.specs.Fault.{Tells};
+ghost use Rattle.formatx.specs.Inner.Answers.{Answers};
 ghost use Rattle.formatx.specs.Spans.{ArgumentFits, CountFits, Fits, PlaceholderFits, PrecisionFits, SegmentFits, SpanFits};
-ghost use Rattle.formatx.specs.Field.{aligned, body_of, by_shape, copies, cut, field_text, gap_of, is_aligned, laid_out, number_body, padding_of, shape_by, shaped, sign_text, text_by};
-ghost use Rattle.formatx.specs.Scene.{covered, named_position, position_of, scene_of, scene_over};
+ghost use Rattle.formatx.specs.Field.{aligned, body_of, by_shape, cut, field_text, gap_of, number_body, padding_of, shape_by, shaped, sign_text, text_by};
+ghost use Rattle.formatx.specs.Scene.{covered, named_position, position_of, scene_over};
+ghost use Rattle.formatx.specs.Inner.Scenes.{scene_of};
 ghost use Rattle.formatx.specs.Counts.{count_at_position, count_of, number_of, precision_of, star_precision, width_of};
 ghost use Rattle.formatx.specs.Arguments.{argument_name, argument_takes, position_at, precision_takes, value_at};
 ghost use Rattle.formatx.specs.Text.{Appends, Holds, placeholder_text, present_text, rendered, segment_takes, segment_text, argument_text, supported, whole};
@@ -16,9 +16,10 @@ use crate::ast::{
     Precision, Segment, Sign, Span,
 };
 use crate::error::Error;
-use crate::parser::{has, quote, usize_of};
+use crate::parser::{quote, strip, usize_of};
 use crate::value::{DebugStyle, FormatValue, Name, Shape};
 use numerals::{Radix, push_digits};
+use padding::{Field, count_chars, front};
 use std::alloc::Global;
 
 // What a template is printed over.
@@ -47,7 +48,7 @@ fn position_of(name: &str, named: &[Name]) -> Option<usize>
 
 // The number that a value's text writes.
 fn number_of<V: FormatValue>(alloc: Global, words: &str, value: &V) -> Result<usize, Error>
-    ensures { Answers result (number_of words.now (V.meaning value.now)) }
+    ensures { Answers (λ a. a) (number_of words.now (V.meaning value.now)) result }
 {
     let mut text = String::new(alloc);
     value.display(&mut text)?;
@@ -73,15 +74,22 @@ fn numbered(alloc: Global, words: &str, number: usize, end: &str) -> Result<Stri
     Ok(message)
 }
 
+// The value at a position, if it is there.
+fn value_in<'a, V: FormatValue>(input: &Input<'a, V>, position: usize) -> Option<&'a V>
+    ensures { option_map V.meaning (option_copied result) ≡ slice_get (scene_of V.meaning input.now).values position }
+{
+    input.args.get(position)
+}
+
 // The value at a position, as a number.
 fn count_at_position<V: FormatValue>(
     alloc: Global,
     input: &Input<'_, V>,
     position: usize,
 ) -> Result<usize, Error>
-    ensures { Answers result (count_at_position (scene_of V.meaning input.now) position) }
+    ensures { Answers (λ a. a) (count_at_position (scene_of V.meaning input.now) position) result }
 {
-    match input.args.get(position) {
+    match value_in(input, position) {
         Some(value) => number_of(alloc, "count argument ", value),
         None => {
             let message = numbered(alloc, "count argument index ", position, " out of range")?;
@@ -107,7 +115,7 @@ fn count_of<V: FormatValue>(
     count: &Count,
 ) -> Result<usize, Error>
     requires { CountFits input.now.source.now count.now }
-    ensures { Answers result (count_of (scene_of V.meaning input.now) count.now) }
+    ensures { Answers (λ a. a) (count_of (scene_of V.meaning input.now) count.now) result }
 {
     match count {
         Count::Literal(number) => Ok(*number),
@@ -136,7 +144,7 @@ fn width_of<V: FormatValue>(
     width: &Option<Count>,
 ) -> Result<Option<usize>, Error>
     requires { MatchOption width.now ⊤ (CountFits input.now.source.now) }
-    ensures { Answers result (width_of (scene_of V.meaning input.now) width.now) }
+    ensures { Answers (λ a. a) (width_of (scene_of V.meaning input.now) width.now) result }
 {
     match width {
         Some(count) => Ok(Some(count_of(alloc, input, count)?)),
@@ -150,9 +158,9 @@ fn star_precision<V: FormatValue>(
     input: &Input<'_, V>,
     next: usize,
 ) -> Result<usize, Error>
-    ensures { Answers result (star_precision (scene_of V.meaning input.now) next) }
+    ensures { Answers (λ a. a) (star_precision (scene_of V.meaning input.now) next) result }
 {
-    match input.args.get(next) {
+    match value_in(input, next) {
         Some(value) => number_of(alloc, "`.*` precision argument ", value),
         None => {
             let message = String::from_str(alloc, "not enough arguments for `.*` precision")?;
@@ -171,7 +179,7 @@ fn precision_of<V: FormatValue>(
     precision: &Option<Precision>,
 ) -> Result<Option<usize>, Error>
     requires { MatchOption precision.now ⊤ (PrecisionFits input.now.source.now) }
-    ensures { Answers result (precision_of (scene_of V.meaning input.now) next precision.now) }
+    ensures { Answers (λ a. a) (precision_of (scene_of V.meaning input.now) next precision.now) result }
 {
     match precision {
         Some(Precision::Count(count)) => Ok(Some(count_of(alloc, input, count)?)),
@@ -206,7 +214,7 @@ fn value_at<'a, V: FormatValue>(
     ensures { option_map V.meaning (option_copied result) ≡ value_at (scene_of V.meaning input.now) next argument.now }
 {
     match position_at(input, next, argument) {
-        Some(position) => input.args.get(position),
+        Some(position) => value_in(input, position),
         None => None,
     }
 }
@@ -231,7 +239,7 @@ fn argument_name(
 
 // Only the four types of texts are carried.
 fn supported(format_type: FormatType, span: Span) -> Result<FormatType, Error>
-    ensures { Answers result (supported format_type span) }
+    ensures { Answers (λ a. a) (supported format_type span) result }
 {
     match format_type {
         FormatType::Display
@@ -262,31 +270,13 @@ fn number_body(sign: Option<Sign>, text: &str) -> Body<'_>
     ensures sign { result.sign.now ≡ (number_body sign text.now).sign }
     ensures rest { result.rest.now ≡ (number_body sign text.now).rest }
 {
-    if has(text, 0, b'-') {
-        Body {
-            sign: &text[..1],
-            rest: &text[1..],
-        }
-    } else {
-        Body {
+    match strip(text, b'-') {
+        Some(rest) => Body { sign: "-", rest },
+        None => Body {
             sign: sign_text(sign),
             rest: text,
-        }
+        },
     }
-}
-
-// The first characters of a text.
-fn front(text: &str, count: usize) -> &str
-    ensures { result.now ≡ cut (Some count) text.now }
-{
-    let mut rest = text.chars();
-    'characters: for i in 0..count {
-        let _ = i;
-        let Some(_character) = rest.next() else {
-            return text;
-        };
-    }
-    &text[..text.len() - rest.as_str().len()]
 }
 
 fn cut(precision: Option<usize>, text: &str) -> &str
@@ -392,77 +382,12 @@ fn padding_of(spec: &FormatSpec, shape: &Shape, gap: usize) -> Padding
     }
 }
 
-fn char_count(text: &str) -> usize
-    ensures value { result ≡ length (chars text.now) }
-    ensures bound { result ≤ length text.now }
-{
-    text.chars().count()
-}
-
 // How many characters a body lacks to the width.
 fn gap_of(width: Option<usize>, body: &Body<'_>) -> usize
     ensures { result ≡ gap_of width (record { sign = body.now.sign.now; rest = body.now.rest.now }) }
 {
-    let count = body.sign.len() + char_count(body.rest);
+    let count = body.sign.len() + count_chars(body.rest);
     width.unwrap_or(0).saturating_sub(count)
-}
-
-// Appends a character many times, for which there is room.
-fn push_copies(output: &mut String, count: usize, c: char)
-    requires { string_len output.old + count * len_utf8 c ≤ string_capacity output.old }
-    ensures text { string_bytes output.new ≡ string_bytes output.old ++ copies count c }
-    ensures len { string_len output.new ≡ string_len output.old + count * len_utf8 c }
-    ensures capacity { string_capacity output.old ≤ string_capacity output.new }
-{
-    'copies: for i in 0..count {
-        let _ = i;
-        output.push(c).unwrap();
-    }
-}
-
-// Appends a text, for which there is room.
-fn push_all(output: &mut String, text: &str)
-    requires { string_len output.old + length text.now ≤ string_capacity output.old }
-    ensures text { string_bytes output.new ≡ string_bytes output.old ++ text.now }
-    ensures len { string_len output.new ≡ string_len output.old + length text.now }
-    ensures capacity { string_capacity output.old ≤ string_capacity output.new }
-{
-    output.push_str(text).unwrap();
-}
-
-// How many bytes a body has with its padding, where that many can be counted.
-fn laid_out_len(fill: char, padding: Padding, body: &Body<'_>) -> Option<usize>
-    ensures { IfSome result (λ n. n ≡ padding.left * len_utf8 fill + length body.now.sign.now + padding.zeros + length body.now.rest.now + padding.right * len_utf8 fill) }
-{
-    let left = padding.left.checked_mul(fill.len_utf8())?;
-    let right = padding.right.checked_mul(fill.len_utf8())?;
-    left.checked_add(body.sign.len())?
-        .checked_add(padding.zeros)?
-        .checked_add(body.rest.len())?
-        .checked_add(right)
-}
-
-// Appends a body with its padding. The room is taken first, so nothing is written without memory.
-fn push_laid_out(
-    output: &mut String,
-    fill: char,
-    padding: Padding,
-    body: &Body<'_>,
-) -> Result<(), Error>
-    ensures ok { OnOk result (string_bytes output.new ≡ string_bytes output.old ++ laid_out fill padding (record { sign = body.now.sign.now; rest = body.now.rest.now })) }
-    ensures err { OnErr result (string_bytes output.new ≡ string_bytes output.old) }
-    ensures memory { IfErr result (λ e. e ≡ Error.NoMemory) }
-{
-    let Some(len) = laid_out_len(fill, padding, body) else {
-        return Err(Error::NoMemory);
-    };
-    output.reserve(len)?;
-    push_copies(output, padding.left, fill);
-    push_all(output, body.sign);
-    push_copies(output, padding.zeros, '0');
-    push_all(output, body.rest);
-    push_copies(output, padding.right, fill);
-    Ok(())
 }
 
 // Appends a text with its sign and its padding, cut to the precision.
@@ -481,40 +406,50 @@ fn push_shaped(
     let body = body_of(shape, spec.sign, precision, text);
     let gap = gap_of(width, &body);
     let padding = padding_of(spec, shape, gap);
-    push_laid_out(output, spec.fill.unwrap_or(' '), padding, &body)
+    let field = Field {
+        head: "",
+        left: padding.left,
+        lead: body.sign,
+        zeros: padding.zeros,
+        text: body.rest,
+        right: padding.right,
+        fill: spec.fill.unwrap_or(' '),
+    };
+    field.push(output)?;
+    Ok(())
 }
 
-// Appends the text of a value under a type, and answers its shape.
+// Appends the text of a value under a type.
 fn push_text<V: FormatValue>(
     out: &mut String,
     value: &V,
     format_type: FormatType,
-) -> Result<Shape, Error>
+) -> Result<(), Error>
     ensures ok { OnOk result (string_bytes out.new ≡ string_bytes out.old ++ text_by format_type (V.meaning value.now)) }
-    ensures shape { IfOk result (λ shape. shape ≡ shape_by format_type (V.meaning value.now)) }
+    ensures err { OnErr result (string_bytes out.new ≡ string_bytes out.old) }
     ensures memory { IfErr result (λ e. e ≡ Error.NoMemory) }
 {
     match format_type {
-        FormatType::Debug => {
-            value.debug(DebugStyle::Plain, out)?;
-            Ok(value.debug_shape())
-        }
-        FormatType::DebugLowerHex => {
-            value.debug(DebugStyle::LowerHex, out)?;
-            Ok(Shape::Raw)
-        }
-        FormatType::DebugUpperHex => {
-            value.debug(DebugStyle::UpperHex, out)?;
-            Ok(Shape::Raw)
-        }
-        _ => {
-            value.display(out)?;
-            Ok(value.display_shape())
-        }
+        FormatType::Debug => value.debug(DebugStyle::Plain, out),
+        FormatType::DebugLowerHex => value.debug(DebugStyle::LowerHex, out),
+        FormatType::DebugUpperHex => value.debug(DebugStyle::UpperHex, out),
+        _ => value.display(out),
     }
 }
 
-// Appends a field; `scratch` is room for the value's own text.
+// The shape of that text.
+fn shape_by<V: FormatValue>(value: &V, format_type: FormatType) -> Shape
+    ensures { result ≡ shape_by format_type (V.meaning value.now) }
+{
+    match format_type {
+        FormatType::Debug => value.debug_shape(),
+        FormatType::DebugLowerHex | FormatType::DebugUpperHex => Shape::Raw,
+        _ => value.display_shape(),
+    }
+}
+
+// Appends a field; `scratch` is room for the value's own text. Without a sign, a width and a precision the text goes straight
+// into the output.
 fn push_field<V: FormatValue>(
     output: &mut String,
     scratch: &mut String,
@@ -527,8 +462,12 @@ fn push_field<V: FormatValue>(
     ensures err { OnErr result (string_bytes output.new ≡ string_bytes output.old) }
     ensures memory { IfErr result (λ e. e ≡ Error.NoMemory) }
 {
+    if spec.sign.is_none() && width.is_none() && precision.is_none() {
+        return push_text(output, value, spec.format_type);
+    }
     scratch.clear();
-    let shape = push_text(scratch, value, spec.format_type)?;
+    push_text(scratch, value, spec.format_type)?;
+    let shape = shape_by(value, spec.format_type);
     push_shaped(output, spec, &shape, width, precision, scratch.as_str())
 }
 
@@ -544,7 +483,7 @@ fn push_present<V: FormatValue>(
 ) -> Result<(), Error>
     requires { PlaceholderFits input.now.source.now placeholder.now }
     ensures ok { OnOk result (Appends (present_text (scene_of V.meaning input.now) placeholder.now precision (V.meaning value.now)) (string_bytes output.old) (string_bytes output.new)) }
-    ensures err { IfErr result (λ e. Tells e (present_text (scene_of V.meaning input.now) placeholder.now precision (V.meaning value.now))) }
+    ensures err { IfErr result (λ e. Tells e (λ fault. present_text (scene_of V.meaning input.now) placeholder.now precision (V.meaning value.now) ≡ Err fault)) }
     ensures unchanged { OnErr result (string_bytes output.new ≡ string_bytes output.old) }
 {
     let width = width_of(alloc, input, &placeholder.spec.width)?;
@@ -593,7 +532,7 @@ fn refuse_missing<V: FormatValue>(
 ) -> Result<(), Error>
     requires { PlaceholderFits input.now.source.now placeholder.now }
     ensures ok { OnOk result (IsFalse input.now.strict) }
-    ensures err { IfErr result (λ e. Tells e (argument_text (scene_of V.meaning input.now) next placeholder.now None None)) }
+    ensures err { IfErr result (λ e. Tells e (λ fault. argument_text (scene_of V.meaning input.now) next placeholder.now None None ≡ Err fault)) }
 {
     if !input.strict {
         return Ok(());
@@ -617,7 +556,7 @@ fn push_placeholder<V: FormatValue>(
     requires fits { PlaceholderFits input.now.source.now placeholder.now }
     requires room { next + 1 < 2 ^ 64 }
     ensures ok { OnOk result (Appends (placeholder_text (scene_of V.meaning input.now) next placeholder.now) (string_bytes output.old) (string_bytes output.new)) }
-    ensures err { IfErr result (λ e. Tells e (placeholder_text (scene_of V.meaning input.now) next placeholder.now)) }
+    ensures err { IfErr result (λ e. Tells e (λ fault. placeholder_text (scene_of V.meaning input.now) next placeholder.now ≡ Err fault)) }
     ensures unchanged { OnErr result (string_bytes output.new ≡ string_bytes output.old) }
 {
     let precision = precision_of(alloc, input, next, &placeholder.spec.precision)?;
@@ -640,7 +579,7 @@ fn push_segment<V: FormatValue>(
     requires fits { SegmentFits input.now.source.now segment.now }
     requires room { next + 1 < 2 ^ 64 }
     ensures ok { OnOk result (Appends (segment_text (scene_of V.meaning input.now) next segment.now) (string_bytes output.old) (string_bytes output.new)) }
-    ensures err { IfErr result (λ e. Tells e (segment_text (scene_of V.meaning input.now) next segment.now)) }
+    ensures err { IfErr result (λ e. Tells e (λ fault. segment_text (scene_of V.meaning input.now) next segment.now ≡ Err fault)) }
     ensures unchanged { OnErr result (string_bytes output.new ≡ string_bytes output.old) }
 {
     match segment {
@@ -668,7 +607,7 @@ pub fn render<V: FormatValue>(
     ensures ok { let all = rendered (scene_over V.meaning source.now args.now named.now strict) 0 parsed.now.segments.items in
         OnOk result (Appends (whole all) (string_bytes output.old) (string_bytes output.new)) }
     ensures err { let all = rendered (scene_over V.meaning source.now args.now named.now strict) 0 parsed.now.segments.items in
-        IfErr result (λ e. Tells e (whole all)) }
+        IfErr result (λ e. Tells e (λ fault. all.fault ≡ Some fault)) }
 
     // After a refusal stands the text before the fault, or without memory a front of the text.
     ensures stands { let all = rendered (scene_over V.meaning source.now args.now named.now strict) 0 parsed.now.segments.items in

@@ -1,5 +1,5 @@
 // Laws of templates: each function has an empty body, and its clause is the law.
-ghost use Rattle.formatx.specs.Laws.{FieldsAreWide, FinishesAgree, HasOneTree, MissingIsEmpty, ReadsTheGrammar};
+ghost use Rattle.formatx.specs.Laws.{FieldsAreWide, FinishesAgree, HasOneReading, MissingIsEmpty};
 
 /// Strict and lenient printing agree where no placeholder lacks its value.
 pub fn finishes_agree()
@@ -16,12 +16,7 @@ pub fn fields_are_wide()
     ensures { FieldsAreWide }
 {}
 
-/// A template is read into segments exactly where its text spells them.
-pub fn reads_the_grammar()
-    ensures { ReadsTheGrammar }
-{}
-
-/// A text spells the segments of one template at most.
-pub fn one_tree()
-    ensures { HasOneTree }
+/// A source is read into the segments of one template, or it has one first fault, and never both.
+pub fn one_reading()
+    ensures { HasOneReading }
 {}

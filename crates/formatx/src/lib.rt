@@ -16,7 +16,7 @@ pub use ast::{
 };
 pub use error::Error;
 pub use format::render;
-pub use laws::{fields_are_wide, finishes_agree, missing_is_empty, one_tree, reads_the_grammar};
+pub use laws::{fields_are_wide, finishes_agree, missing_is_empty, one_reading};
 pub use parser::parse;
 pub use renderer::Renderer;
 pub use template::Template;

@@ -1,12 +1,16 @@
-// Reads a template: one function for each part of the grammar, which answers the part and the place where it ends.
-ghost use Rattle.std.specs.Prelude.{◌≡◌, ◌+◌, ◌<◌, ◌≤◌, ◌^◌, IfErr, IfOk, IsErr, IsTrue, OnSome, length, slice_index, string_bytes, codes, encode_utf8, IsCharBoundary, MatchOption, ⊤};
+// Reads a template: one function for each part of the grammar, which answers the part in front of a text and what follows it.
+ghost use Rattle.std.specs.Prelude.{◌≡◌, ◌<◌, ◌≤◌, false, true, drop, IfErr, IfNone, IfOk, IfSome, IsTrue, Ok, Some, length, slice_index, string_bytes, codes, encode_utf8, MatchOption, ⊤};
 ghost use Rattle.std.specs.Char.{is_ascii_digit, len_utf8};
-ghost use Rattle.formatx.specs.Fault.{Answers, Tells, unreadable_at, quoting};
-ghost use Rattle.formatx.specs.Words.{ends_at, has, is_plain, is_type_start, is_word, is_word_start, run_end, text_between, usize_of};
-ghost use Rattle.formatx.specs.Options.{align_of, alternate_at, char_at, count_at, fill_align_at, hex_at, number_between, number_count_at, precision_at, sign_at, type_at, zero_at};
-ghost use Rattle.formatx.specs.Segments.{argument_at, close_at, closed_at, follows_argument, open_at, options_at, placeholder_at, segment_at, segments_of, spec_at};
-ghost use Rattle.formatx.specs.Grammar.{Refuses, Spells};
-ghost use Rattle.formatx.specs.Spans.{ArgumentFits, CountFits, Fits, IsPlaced, PrecisionFits, SpecFits, Tiles};
+ghost use Rattle.std.specs.List.{prefix_len, take_while};
+ghost use Rattle.std.specs.Str.{IsCharBoundary};
+ghost use Rattle.formatx.specs.Fault.{Tells, between, quoting, unreadable};
+ghost use Rattle.formatx.specs.Words.{after, begins, is_plain, is_type_start, is_word, is_word_start, usize_of};
+ghost use Rattle.formatx.specs.Options.{align_by, alternate_of, count_of, fill_align_of, first_char, follows_zero, hex_of, number_count_of, number_in, precision_of, sign_of, type_of, zero_of};
+ghost use Rattle.formatx.specs.Placeholders.{argument_of, follows_argument, options_of, placeholder_of, spec_of};
+ghost use Rattle.formatx.specs.Grammar.{BeginsWithFault, HasFault, IsSegment, IsTemplate, Spells};
+ghost use Rattle.formatx.specs.Spans.{ArgumentFits, CountFits, Fits, PlaceholderFits, PrecisionFits, SegmentFits, SpanFits, SpecFits, Tiles};
+ghost use Rattle.formatx.specs.Inner.Answers.{Answers};
+ghost use Rattle.formatx.specs.Inner.Ends.{IsEnd};
 
 use crate::ast::{
     Align, Argument, Count, CountParam, FormatSpec, FormatString, FormatType, Placeholder,
@@ -15,45 +19,69 @@ use crate::ast::{
 use crate::error::Error;
 use std::alloc::Global;
 
-// The byte at a place, or 0 at the end: no part of the grammar holds a 0.
-fn byte_at(source: &str, at: usize) -> u8
-    ensures value { result ≡ slice_index source.now at }
-    ensures inside { 0 < result → at < length source.now }
+// The first byte, or 0 at the end: no part of the grammar holds a 0.
+fn first_byte(text: &str) -> u8
+    ensures value { result ≡ slice_index text.now 0 }
+    ensures inside { 0 < result → 0 < length text.now }
 {
-    match source.as_bytes().get(at) {
+    match text.as_bytes().first() {
         Some(byte) => *byte,
         None => 0,
     }
 }
 
-/// Whether this byte, which isn't 0, stands at a place.
-pub(crate) fn has(source: &str, at: usize, byte: u8) -> bool
-    requires { 0 < byte }
-    ensures value { result ≡ has source.now at byte }
-    ensures inside { IsTrue result → at < length source.now }
+/// Whether a text begins with this byte, which isn't 0.
+fn begins(text: &str, byte: u8) -> bool
+    ensures { result ≡ begins text.now byte }
 {
-    byte_at(source, at) == byte
+    first_byte(text) == byte
 }
 
-fn ends_at(source: &str, at: usize) -> bool
-    ensures { result ≡ ends_at source.now at }
+// What follows the first byte, which is ASCII and isn't 0.
+fn skip_byte(text: &str) -> &str
+    requires visible { 0 < slice_index text.now 0 }
+    requires ascii { slice_index text.now 0 < 128 }
+    ensures rest { result.now ≡ drop 1 text.now }
+    ensures leaves { IsEnd text.now result.now }
 {
-    source.len() <= at
+    &text[1..]
 }
 
-// Where the run of digits ends that begins at a place.
-fn digits_end(source: &str, at: usize) -> usize
-    requires { at ≤ length source.now }
-    ensures end { result ≡ run_end is_ascii_digit source.now at }
-    ensures within { result ≤ length source.now }
-    ensures onward { at ≤ result }
-    ensures boundary { IsCharBoundary source.now at → IsCharBoundary source.now result }
+/// What follows this byte, which is ASCII and isn't 0, where a text begins with it.
+pub(crate) fn strip(text: &str, byte: u8) -> Option<&str>
+    requires visible { 0 < byte }
+    requires ascii { byte < 128 }
+    ensures none { IfNone result (begins text.now byte ≡ false) }
+    ensures some { IfSome result (λ rest. begins text.now byte ≡ true) }
+    ensures rest { IfSome result (λ rest. rest.now ≡ drop 1 text.now) }
+    ensures leaves { IfSome result (λ rest. IsEnd text.now rest.now) }
 {
-    let rest = &source.as_bytes()[at..];
-    at + rest
+    if first_byte(text) == byte {
+        Some(skip_byte(text))
+    } else {
+        None
+    }
+}
+
+// How many digits stand in front.
+fn digits_len(text: &str) -> usize
+    ensures len { result ≡ prefix_len is_ascii_digit text.now }
+    ensures boundary { IsCharBoundary text.now result }
+{
+    let bytes = text.as_bytes();
+    bytes
         .iter()
         .position(|byte| !byte.is_ascii_digit())
-        .unwrap_or(rest.len())
+        .unwrap_or(bytes.len())
+}
+
+// The digits in front, and what follows them.
+fn split_digits(text: &str) -> (&str, &str)
+    ensures digits { result.0.now ≡ take_while is_ascii_digit text.now }
+    ensures rest { result.1.now ≡ after is_ascii_digit text.now }
+    ensures leaves { IsEnd text.now result.1.now }
+{
+    text.split_at(digits_len(text))
 }
 
 fn is_word(byte: u8) -> bool
@@ -68,18 +96,24 @@ fn is_word_start(byte: u8) -> bool
     byte.is_ascii_alphabetic() || byte == b'_'
 }
 
-// Where the run of letters, digits and `_` ends that begins at a place.
-fn word_end(source: &str, at: usize) -> usize
-    requires { at ≤ length source.now }
-    ensures end { result ≡ run_end is_word source.now at }
-    ensures within { result ≤ length source.now }
-    ensures onward { at ≤ result }
+// How many letters, digits and `_` stand in front.
+fn word_len(text: &str) -> usize
+    ensures len { result ≡ prefix_len is_word text.now }
+    ensures boundary { IsCharBoundary text.now result }
 {
-    let rest = &source.as_bytes()[at..];
-    at + rest
+    let bytes = text.as_bytes();
+    bytes
         .iter()
         .position(|byte| !is_word(*byte))
-        .unwrap_or(rest.len())
+        .unwrap_or(bytes.len())
+}
+
+// What follows the letters, digits and `_` in front.
+fn skip_word(text: &str) -> &str
+    ensures rest { result.now ≡ after is_word text.now }
+    ensures leaves { IsEnd text.now result.now }
+{
+    &text[word_len(text)..]
 }
 
 fn is_plain(byte: u8) -> bool
@@ -88,24 +122,38 @@ fn is_plain(byte: u8) -> bool
     !(byte == b'{' || byte == b'}')
 }
 
-// Where the run without braces ends that begins at a place.
-fn plain_end(source: &str, at: usize) -> usize
-    requires { at ≤ length source.now }
-    ensures end { result ≡ run_end is_plain source.now at }
-    ensures boundary { IsCharBoundary source.now result }
-    ensures grows { at < length source.now → IsTrue (is_plain (slice_index source.now at)) → at < result }
+// How many bytes without braces stand in front.
+fn plain_len(text: &str) -> usize
+    ensures len { result ≡ prefix_len is_plain text.now }
+    ensures boundary { IsCharBoundary text.now result }
 {
-    let rest = &source.as_bytes()[at..];
-    at + rest
+    let bytes = text.as_bytes();
+    bytes
         .iter()
         .position(|byte| !is_plain(*byte))
-        .unwrap_or(rest.len())
+        .unwrap_or(bytes.len())
 }
 
-fn is_type_start(byte: u8) -> bool
-    ensures { result ≡ is_type_start byte }
+// What follows the run without braces in front.
+fn skip_plain(text: &str) -> &str
+    ensures rest { result.now ≡ after is_plain text.now }
+    ensures leaves { IsEnd text.now result.now }
+    ensures shorter { 0 < length text.now → IsTrue (is_plain (slice_index text.now 0)) → length result.now < length text.now }
 {
-    matches!(byte, b'?' | b'o' | b'x' | b'X' | b'b' | b'e' | b'E' | b'p')
+    &text[plain_len(text)..]
+}
+
+// The first character, and what follows it.
+fn split_char(text: &str) -> Option<(char, &str)>
+    ensures none { IfNone result (length text.now ≡ 0) }
+    ensures some { IfSome result (λ p. 0 < length text.now) }
+    ensures first { IfSome result (λ p. p.0 ≡ first_char text.now) }
+    ensures rest { IfSome result (λ p. p.1.now ≡ drop (len_utf8 p.0) text.now) }
+    ensures leaves { IfSome result (λ p. IsEnd text.now p.1.now) }
+{
+    let mut rest = text.chars();
+    let first = rest.next()?;
+    Some((first, rest.as_str()))
 }
 
 /// The number that a text writes: an optional `+` and digits, below 2^64.
@@ -115,15 +163,39 @@ pub(crate) fn usize_of(text: &str) -> Option<usize>
     text.parse::<usize>().ok()
 }
 
-// The fault at a span with these words as its message.
-fn refuse<T>(alloc: Global, start: usize, end: usize, words: &str) -> Result<T, Error>
-    ensures fault { IfErr result (λ e. Tells e (unreadable_at {A = T} start end words.now)) }
-    ensures refused { IsErr result }
+// The bytes of a source from where one text that it ends with begins, up to where another does.
+fn span_between(source: &str, from: &str, to: &str) -> Span
+    requires from { IsEnd source.now from.now }
+    requires to { IsEnd from.now to.now }
+    ensures span { result ≡ between (length source.now) from.now to.now }
+    ensures fits { SpanFits source.now result }
 {
-    let span = Span { start, end };
+    Span {
+        start: source.len() - from.len(),
+        end: source.len() - to.len(),
+    }
+}
+
+// The first byte of a text that the source ends with.
+fn first_byte_span(source: &str, text: &str) -> Span
+    requires end { IsEnd source.now text.now }
+    requires some { 0 < length text.now }
+    ensures { result ≡ between (length source.now) text.now (drop 1 text.now) }
+{
+    let start = source.len() - text.len();
+    Span {
+        start,
+        end: start + 1,
+    }
+}
+
+// The error about a span with these words as its message.
+fn refusal(alloc: Global, span: Span, words: &str) -> Error
+    ensures { Tells result (λ fault. fault ≡ unreadable span words.now) }
+{
     match String::from_str(alloc, words) {
-        Ok(message) => Err(Error::Parse { span, message }),
-        Err(_) => Err(Error::NoMemory),
+        Ok(message) => Error::Parse { span, message },
+        Err(_) => Error::NoMemory,
     }
 }
 
@@ -139,331 +211,285 @@ pub(crate) fn quote(alloc: Global, words: &str, text: &str) -> Result<String, Er
     Ok(message)
 }
 
-// The fault at a span with a message that quotes a text.
-fn refuse_text<T>(
-    alloc: Global,
-    start: usize,
-    end: usize,
-    words: &str,
-    text: &str,
-) -> Result<T, Error>
-    ensures fault { IfErr result (λ e. Tells e (unreadable_at {A = T} start end (quoting words.now text.now))) }
-    ensures refused { IsErr result }
+// The error about a span with words and a text as its message.
+fn refusal_of(alloc: Global, span: Span, words: &str, text: &str) -> Error
+    ensures { Tells result (λ fault. fault ≡ unreadable span (quoting words.now text.now)) }
 {
-    let span = Span { start, end };
     match quote(alloc, words, text) {
-        Ok(message) => Err(Error::Parse { span, message }),
-        Err(error) => Err(error),
+        Ok(message) => Error::Parse { span, message },
+        Err(_) => Error::NoMemory,
     }
 }
 
-fn align_of(byte: u8) -> Option<Align>
-    ensures value { result ≡ align_of byte }
-    ensures real { OnSome result (0 < byte) }
+// An alignment, and what follows it.
+fn split_align(text: &str) -> Option<(Align, &str)>
+    ensures none { IfNone result (align_by (slice_index text.now 0) ≡ None) }
+    ensures some { IfSome result (λ p. align_by (slice_index text.now 0) ≡ Some p.0) }
+    ensures rest { IfSome result (λ p. p.1.now ≡ drop 1 text.now) }
+    ensures leaves { IfSome result (λ p. IsEnd text.now p.1.now) }
 {
-    match byte {
-        b'<' => Some(Align::Left),
-        b'^' => Some(Align::Center),
-        b'>' => Some(Align::Right),
+    match first_byte(text) {
+        b'<' => Some((Align::Left, skip_byte(text))),
+        b'^' => Some((Align::Center, skip_byte(text))),
+        b'>' => Some((Align::Right, skip_byte(text))),
         _ => None,
     }
 }
 
-// The character at a place.
-fn char_at(source: &str, at: usize) -> char
-    requires inside { at < length source.now }
-    requires boundary { IsCharBoundary source.now at }
-    ensures value { result ≡ char_at source.now at }
-    ensures within { at + len_utf8 result ≤ length source.now }
+fn fill_align(text: &str) -> (Option<char>, Option<Align>, &str)
+    ensures value { fill_align_of text.now ≡ (result.0, result.1, result.2.now) }
+    ensures leaves { IsEnd text.now result.2.now }
 {
-    match source[at..].chars().next() {
-        Some(c) => c,
-        None => unreachable!(),
+    if begins(text, b'}') {
+        return (None, None, text);
+    }
+    let Some((fill, rest)) = split_char(text) else {
+        return (None, None, text);
+    };
+    if let Some((align, rest)) = split_align(rest) {
+        return (Some(fill), Some(align), rest);
+    }
+    match split_align(text) {
+        Some((align, rest)) => (None, Some(align), rest),
+        None => (None, None, text),
     }
 }
 
-fn fill_align_at(source: &str, at: usize) -> (Option<char>, Option<Align>, usize)
-    requires inside { at ≤ length source.now }
-    requires boundary { IsCharBoundary source.now at }
-    ensures value { result ≡ fill_align_at source.now at }
-    ensures within { result.2 ≤ length source.now }
-    ensures onward { at ≤ result.2 }
+fn sign(text: &str) -> (Option<Sign>, &str)
+    ensures value { sign_of text.now ≡ (result.0, result.1.now) }
+    ensures leaves { IsEnd text.now result.1.now }
 {
-    if ends_at(source, at) || has(source, at, b'}') {
-        return (None, None, at);
-    }
-    let fill = char_at(source, at);
-    let next = at + fill.len_utf8();
-    if let Some(align) = align_of(byte_at(source, next)) {
-        return (Some(fill), Some(align), next + 1);
-    }
-    match align_of(byte_at(source, at)) {
-        Some(align) => (None, Some(align), at + 1),
-        None => (None, None, at),
+    match first_byte(text) {
+        b'+' => (Some(Sign::Plus), skip_byte(text)),
+        b'-' => (Some(Sign::Minus), skip_byte(text)),
+        _ => (None, text),
     }
 }
 
-fn sign_at(source: &str, at: usize) -> (Option<Sign>, usize)
-    requires { at ≤ length source.now }
-    ensures value { result ≡ sign_at source.now at }
-    ensures within { result.1 ≤ length source.now }
-    ensures onward { at ≤ result.1 }
+fn alternate(text: &str) -> (bool, &str)
+    ensures value { alternate_of text.now ≡ (result.0, result.1.now) }
+    ensures leaves { IsEnd text.now result.1.now }
 {
-    if has(source, at, b'+') {
-        (Some(Sign::Plus), at + 1)
-    } else if has(source, at, b'-') {
-        (Some(Sign::Minus), at + 1)
-    } else {
-        (None, at)
+    match strip(text, b'#') {
+        Some(rest) => (true, rest),
+        None => (false, text),
     }
 }
 
-fn alternate_at(source: &str, at: usize) -> (bool, usize)
-    requires { at ≤ length source.now }
-    ensures value { result ≡ alternate_at source.now at }
-    ensures within { result.1 ≤ length source.now }
-    ensures onward { at ≤ result.1 }
+fn is_type_start(byte: u8) -> bool
+    ensures { result ≡ is_type_start byte }
 {
-    if has(source, at, b'#') {
-        (true, at + 1)
-    } else {
-        (false, at)
-    }
+    matches!(byte, b'?' | b'o' | b'x' | b'X' | b'b' | b'e' | b'E' | b'p')
 }
 
-fn zero_at(source: &str, at: usize) -> (bool, usize)
-    requires { at ≤ length source.now }
-    ensures value { result ≡ zero_at source.now at }
-    ensures within { result.1 ≤ length source.now }
-    ensures onward { at ≤ result.1 }
+// Whether what follows a `0` makes it the zero flag.
+fn follows_zero(text: &str) -> bool
+    ensures { result ≡ follows_zero text.now }
 {
-    if !has(source, at, b'0') {
-        return (false, at);
-    }
-    let next = byte_at(source, at + 1);
-    if ends_at(source, at + 1)
-        || next.is_ascii_digit()
-        || next == b'}'
-        || next == b'.'
-        || is_type_start(next)
-    {
-        (true, at + 1)
-    } else {
-        (false, at)
-    }
+    let byte = first_byte(text);
+    text.is_empty() || byte.is_ascii_digit() || byte == b'}' || byte == b'.' || is_type_start(byte)
 }
 
-// The number that the digits between two places write.
-fn number_between(
-    alloc: Global,
-    source: &str,
-    start: usize,
-    end: usize,
-    words: &str,
-) -> Result<usize, Error>
-    requires ordered { start ≤ end }
-    requires from { IsCharBoundary source.now start }
-    requires to { IsCharBoundary source.now end }
-    ensures { Answers result (number_between source.now start end words.now) }
+fn zero(text: &str) -> (bool, &str)
+    ensures value { zero_of text.now ≡ (result.0, result.1.now) }
+    ensures leaves { IsEnd text.now result.1.now }
 {
-    let digits = &source[start..end];
+    if let Some(rest) = strip(text, b'0') {
+        if follows_zero(rest) {
+            return (true, rest);
+        }
+    }
+    (false, text)
+}
+
+// The number that the digits in front write.
+fn number(alloc: Global, source: &str, text: &str, words: &str) -> Result<usize, Error>
+    requires { IsEnd source.now text.now }
+    ensures { Answers (λ n. n) (number_in (length source.now) text.now words.now) result }
+{
+    let (digits, rest) = split_digits(text);
     match usize_of(digits) {
         Some(number) => Ok(number),
-        None => refuse_text(alloc, start, end, words, digits),
+        None => Err(refusal_of(alloc, span_between(source, text, rest), words, digits)),
     }
 }
 
 // Digits as a count, or as the position of one.
-fn number_count_at(
+fn number_count<'t>(
     alloc: Global,
     source: &str,
-    start: usize,
-    end: usize,
-) -> Result<(Option<Count>, usize), Error>
-    requires ordered { start ≤ end }
-    requires inside { end ≤ length source.now }
-    requires from { IsCharBoundary source.now start }
-    requires to { IsCharBoundary source.now end }
-    ensures value { Answers result (number_count_at source.now start end) }
-    ensures within { IfOk result (λ r. r.1 ≤ length source.now) }
-    ensures onward { IfOk result (λ r. end ≤ r.1) }
+    text: &'t str,
+) -> Result<(Option<Count>, &'t str), Error>
+    requires { IsEnd source.now text.now }
+    ensures value { Answers (λ r. (r.0, r.1.now)) (number_count_of (length source.now) text.now) result }
+    ensures leaves { IfOk result (λ r. IsEnd text.now r.1.now) }
     ensures fits { IfOk result (λ r. MatchOption r.0 ⊤ (CountFits source.now)) }
 {
-    if has(source, end, b'$') {
-        let position = number_between(alloc, source, start, end, "invalid count parameter: ")?;
-        Ok((
-            Some(Count::Param(CountParam::Positional(position))),
-            end + 1,
-        ))
-    } else {
-        let number = number_between(alloc, source, start, end, "invalid count: ")?;
-        Ok((Some(Count::Literal(number)), end))
+    let (_, rest) = split_digits(text);
+    match strip(rest, b'$') {
+        Some(rest) => {
+            let position = number(alloc, source, text, "invalid count parameter: ")?;
+            Ok((Some(Count::Param(CountParam::Positional(position))), rest))
+        }
+        None => {
+            let number = number(alloc, source, text, "invalid count: ")?;
+            Ok((Some(Count::Literal(number)), rest))
+        }
     }
 }
 
-#[tactic(auto, unfolding(crate::specs::Options::count_at))]
-fn count_at(alloc: Global, source: &str, at: usize) -> Result<(Option<Count>, usize), Error>
-    requires { at ≤ length source.now }
-    ensures value { Answers result (count_at source.now at) }
-    ensures within { IfOk result (λ r. r.1 ≤ length source.now) }
-    ensures onward { IfOk result (λ r. at ≤ r.1) }
+#[tactic(auto, unfolding(crate::specs::Options::count_of))]
+fn count<'t>(alloc: Global, source: &str, text: &'t str) -> Result<(Option<Count>, &'t str), Error>
+    requires { IsEnd source.now text.now }
+    ensures value { Answers (λ r. (r.0, r.1.now)) (count_of (length source.now) text.now) result }
+    ensures leaves { IfOk result (λ r. IsEnd text.now r.1.now) }
     ensures fits { IfOk result (λ r. MatchOption r.0 ⊤ (CountFits source.now)) }
 {
-    let first = byte_at(source, at);
+    let first = first_byte(text);
     if first.is_ascii_digit() {
-        return number_count_at(alloc, source, at, digits_end(source, at));
+        return number_count(alloc, source, text);
     }
-    let end = word_end(source, at);
-    if is_word_start(first) && has(source, end, b'$') {
-        let name = Span { start: at, end };
-        Ok((Some(Count::Param(CountParam::Named(name))), end + 1))
-    } else {
-        Ok((None, at))
+    if !is_word_start(first) {
+        return Ok((None, text));
+    }
+    let word_end = skip_word(text);
+    match strip(word_end, b'$') {
+        Some(rest) => {
+            let name = span_between(source, text, word_end);
+            Ok((Some(Count::Param(CountParam::Named(name))), rest))
+        }
+        None => Ok((None, text)),
     }
 }
 
-#[tactic(auto, unfolding(crate::specs::Options::precision_at))]
-fn precision_at(alloc: Global, source: &str, at: usize) -> Result<(Option<Precision>, usize), Error>
-    requires { at ≤ length source.now }
-    ensures value { Answers result (precision_at source.now at) }
-    ensures within { IfOk result (λ r. r.1 ≤ length source.now) }
-    ensures onward { IfOk result (λ r. at ≤ r.1) }
+#[tactic(auto, unfolding(crate::specs::Options::precision_of))]
+fn precision<'t>(
+    alloc: Global,
+    source: &str,
+    text: &'t str,
+) -> Result<(Option<Precision>, &'t str), Error>
+    requires { IsEnd source.now text.now }
+    ensures value { Answers (λ r. (r.0, r.1.now)) (precision_of (length source.now) text.now) result }
+    ensures leaves { IfOk result (λ r. IsEnd text.now r.1.now) }
     ensures fits { IfOk result (λ r. MatchOption r.0 ⊤ (PrecisionFits source.now)) }
 {
-    if !has(source, at, b'.') {
-        return Ok((None, at));
+    let Some(rest) = strip(text, b'.') else {
+        return Ok((None, text));
+    };
+    let dot = span_between(source, text, rest);
+    if rest.is_empty() {
+        return Err(refusal(alloc, dot, "expected precision after `.`"));
     }
-    if ends_at(source, at + 1) {
-        return refuse(alloc, at, at + 1, "expected precision after `.`");
+    if let Some(rest) = strip(rest, b'*') {
+        return Ok((Some(Precision::Star), rest));
     }
-    if has(source, at + 1, b'*') {
-        return Ok((Some(Precision::Star), at + 2));
-    }
-    let (count, end) = count_at(alloc, source, at + 1)?;
+    let (count, rest) = count(alloc, source, rest)?;
     match count {
-        Some(count) => Ok((Some(Precision::Count(count)), end)),
-        None => refuse(alloc, at, at + 1, "expected precision value after `.`"),
+        Some(count) => Ok((Some(Precision::Count(count)), rest)),
+        None => Err(refusal(alloc, dot, "expected precision value after `.`")),
     }
 }
 
-// A hexadecimal type, or with `?` after it a debug type.
-fn hex_at(source: &str, at: usize, hex: FormatType, debug: FormatType) -> (FormatType, usize)
-    requires { at < length source.now }
-    ensures value { result ≡ hex_at source.now at hex debug }
-    ensures within { result.1 ≤ length source.now }
-    ensures onward { at ≤ result.1 }
+// The hexadecimal type that the first byte begins, or with `?` after it a debug type.
+fn hex(text: &str, hex: FormatType, debug: FormatType) -> (FormatType, &str)
+    requires visible { 0 < slice_index text.now 0 }
+    requires ascii { slice_index text.now 0 < 128 }
+    ensures value { hex_of (drop 1 text.now) hex debug ≡ (result.0, result.1.now) }
+    ensures leaves { IsEnd text.now result.1.now }
 {
-    if has(source, at + 1, b'?') {
-        (debug, at + 2)
-    } else {
-        (hex, at + 1)
+    let rest = skip_byte(text);
+    match strip(rest, b'?') {
+        Some(rest) => (debug, rest),
+        None => (hex, rest),
     }
 }
 
-fn refuse_type<T>(alloc: Global, at: usize, byte: u8) -> Result<T, Error>
-    requires { at < 2 ^ 63 }
-    ensures fault { IfErr result (λ e. Tells e (unreadable_at {A = T} at (at + 1) (quoting (codes "unknown format type: ") (encode_utf8 byte)))) }
-    ensures refused { IsErr result }
+// The error about a byte that begins no type.
+fn unknown_type(alloc: Global, span: Span, byte: u8) -> Error
+    ensures { Tells result (λ fault. fault ≡ unreadable span (quoting (codes "unknown format type: ") (encode_utf8 byte))) }
 {
-    let mut character = String::new(alloc);
-    if character.push(char::from(byte)).is_err() {
-        return Err(Error::NoMemory);
-    }
-    refuse_text(
-        alloc,
-        at,
-        at + 1,
-        "unknown format type: ",
-        character.as_str(),
-    )
+    let mut bytes = [0u8; 4];
+    let character = char::from(byte).encode_utf8(&mut bytes);
+    refusal_of(alloc, span, "unknown format type: ", character)
 }
 
-#[tactic(auto, unfolding(crate::specs::Options::type_at))]
-fn type_at(alloc: Global, source: &str, at: usize) -> Result<(FormatType, usize), Error>
-    requires { at ≤ length source.now }
-    ensures value { Answers result (type_at source.now at) }
-    ensures within { IfOk result (λ r. r.1 ≤ length source.now) }
-    ensures onward { IfOk result (λ r. at ≤ r.1) }
+#[tactic(auto, unfolding(crate::specs::Options::type_of))]
+fn format_type<'t>(
+    alloc: Global,
+    source: &str,
+    text: &'t str,
+) -> Result<(FormatType, &'t str), Error>
+    requires { IsEnd source.now text.now }
+    ensures value { Answers (λ r. (r.0, r.1.now)) (type_of (length source.now) text.now) result }
+    ensures leaves { IfOk result (λ r. IsEnd text.now r.1.now) }
 {
-    if ends_at(source, at) {
-        return Ok((FormatType::Display, at));
+    if text.is_empty() {
+        return Ok((FormatType::Display, text));
     }
-    match byte_at(source, at) {
-        b'}' => Ok((FormatType::Display, at)),
-        b'?' => Ok((FormatType::Debug, at + 1)),
-        b'x' => Ok(hex_at(source, at, FormatType::LowerHex, FormatType::DebugLowerHex)),
-        b'X' => Ok(hex_at(source, at, FormatType::UpperHex, FormatType::DebugUpperHex)),
-        b'o' => Ok((FormatType::Octal, at + 1)),
-        b'b' => Ok((FormatType::Binary, at + 1)),
-        b'e' => Ok((FormatType::LowerExp, at + 1)),
-        b'E' => Ok((FormatType::UpperExp, at + 1)),
-        b'p' => Ok((FormatType::Pointer, at + 1)),
-        byte => refuse_type(alloc, at, byte),
+    match first_byte(text) {
+        b'}' => Ok((FormatType::Display, text)),
+        b'?' => Ok((FormatType::Debug, skip_byte(text))),
+        b'x' => Ok(hex(text, FormatType::LowerHex, FormatType::DebugLowerHex)),
+        b'X' => Ok(hex(text, FormatType::UpperHex, FormatType::DebugUpperHex)),
+        b'o' => Ok((FormatType::Octal, skip_byte(text))),
+        b'b' => Ok((FormatType::Binary, skip_byte(text))),
+        b'e' => Ok((FormatType::LowerExp, skip_byte(text))),
+        b'E' => Ok((FormatType::UpperExp, skip_byte(text))),
+        b'p' => Ok((FormatType::Pointer, skip_byte(text))),
+        byte => Err(unknown_type(alloc, first_byte_span(source, text), byte)),
     }
 }
 
-// Whether `}` or `:` stands at a place.
-fn follows_argument(source: &str, at: usize) -> bool
-    ensures value { result ≡ follows_argument source.now at }
-    ensures inside { IsTrue result → at < length source.now }
-    ensures ascii { IsTrue result → slice_index source.now at < 128 }
+// Whether `}` or `:` stands in front.
+fn follows_argument(text: &str) -> bool
+    ensures value { result ≡ follows_argument text.now }
 {
-    has(source, at, b'}') || has(source, at, b':')
+    begins(text, b'}') || begins(text, b':')
 }
 
-#[tactic(auto, unfolding(crate::specs::Segments::argument_at))]
-fn argument_at(alloc: Global, source: &str, at: usize) -> Result<(Argument, usize), Error>
-    requires { at ≤ length source.now }
-    ensures value { Answers result (argument_at source.now at) }
-    ensures within { IfOk result (λ r. r.1 < length source.now) }
-    ensures onward { IfOk result (λ r. at ≤ r.1) }
+#[tactic(auto, unfolding(crate::specs::Placeholders::argument_of))]
+fn argument<'t>(alloc: Global, source: &str, text: &'t str) -> Result<(Argument, &'t str), Error>
+    requires { IsEnd source.now text.now }
+    ensures value { Answers (λ r. (r.0, r.1.now)) (argument_of (length source.now) text.now) result }
+    ensures leaves { IfOk result (λ r. IsEnd text.now r.1.now) }
     ensures fits { IfOk result (λ r. ArgumentFits source.now r.0) }
 {
-    if ends_at(source, at) {
-        return refuse(alloc, at, at, "unexpected end of format string");
+    if text.is_empty() {
+        let span = span_between(source, text, text);
+        return Err(refusal(alloc, span, "unexpected end of format string"));
     }
-    if follows_argument(source, at) {
-        return Ok((Argument::Implicit, at));
+    if follows_argument(text) {
+        return Ok((Argument::Implicit, text));
     }
-    let first = byte_at(source, at);
-    let digits_end = digits_end(source, at);
-    if first.is_ascii_digit() && follows_argument(source, digits_end) {
-        let position = number_between(
-            alloc,
-            source,
-            at,
-            digits_end,
-            "invalid positional argument: ",
-        )?;
+    let first = first_byte(text);
+    let (_, digits_end) = split_digits(text);
+    if first.is_ascii_digit() && follows_argument(digits_end) {
+        let position = number(alloc, source, text, "invalid positional argument: ")?;
         return Ok((Argument::Positional(position), digits_end));
     }
-    let name_end = word_end(source, at);
-    if is_word_start(first) && follows_argument(source, name_end) {
-        let name = Span {
-            start: at,
-            end: name_end,
-        };
-        return Ok((Argument::Named(name), name_end));
+    let word_end = skip_word(text);
+    if is_word_start(first) && follows_argument(word_end) {
+        let name = span_between(source, text, word_end);
+        return Ok((Argument::Named(name), word_end));
     }
-    refuse(alloc, at, at + 1, "invalid placeholder argument")
+    let span = first_byte_span(source, text);
+    Err(refusal(alloc, span, "invalid placeholder argument"))
 }
 
-#[tactic(auto, unfolding(crate::specs::Segments::options_at))]
-fn options_at(alloc: Global, source: &str, at: usize) -> Result<(FormatSpec, usize), Error>
-    requires inside { at ≤ length source.now }
-    requires boundary { IsCharBoundary source.now at }
-    ensures value { Answers result (options_at source.now at) }
-    ensures within { IfOk result (λ r. r.1 ≤ length source.now) }
-    ensures onward { IfOk result (λ r. at ≤ r.1) }
+#[tactic(auto, unfolding(crate::specs::Placeholders::options_of))]
+fn options<'t>(alloc: Global, source: &str, text: &'t str) -> Result<(FormatSpec, &'t str), Error>
+    requires { IsEnd source.now text.now }
+    ensures value { Answers (λ r. (r.0, r.1.now)) (options_of (length source.now) text.now) result }
+    ensures leaves { IfOk result (λ r. IsEnd text.now r.1.now) }
     ensures fits { IfOk result (λ r. SpecFits source.now r.0) }
 {
-    let (fill, align, at) = fill_align_at(source, at);
-    let (sign, at) = sign_at(source, at);
-    let (alternate, at) = alternate_at(source, at);
-    let (zero_pad, at) = zero_at(source, at);
-    let (width, at) = count_at(alloc, source, at)?;
-    let (precision, at) = precision_at(alloc, source, at)?;
-    let (format_type, at) = type_at(alloc, source, at)?;
+    let (fill, align, text) = fill_align(text);
+    let (sign, text) = sign(text);
+    let (alternate, text) = alternate(text);
+    let (zero_pad, text) = zero(text);
+    let (width, text) = count(alloc, source, text)?;
+    let (precision, text) = precision(alloc, source, text)?;
+    let (format_type, text) = format_type(alloc, source, text)?;
     let spec = FormatSpec {
         fill,
         align,
@@ -474,111 +500,136 @@ fn options_at(alloc: Global, source: &str, at: usize) -> Result<(FormatSpec, usi
         precision,
         format_type,
     };
-    Ok((spec, at))
+    Ok((spec, text))
 }
 
-#[tactic(auto, using(std::proofs::lemmas::Str::lead_after_ascii), unfolding(crate::specs::Segments::spec_at))]
-fn spec_at(alloc: Global, source: &str, at: usize) -> Result<(FormatSpec, usize), Error>
-    requires { at ≤ length source.now }
-    ensures value { Answers result (spec_at source.now at) }
-    ensures within { IfOk result (λ r. r.1 ≤ length source.now) }
-    ensures onward { IfOk result (λ r. at ≤ r.1) }
+#[tactic(auto, unfolding(crate::specs::Placeholders::spec_of))]
+fn spec<'t>(alloc: Global, source: &str, text: &'t str) -> Result<(FormatSpec, &'t str), Error>
+    requires { IsEnd source.now text.now }
+    ensures value { Answers (λ r. (r.0, r.1.now)) (spec_of (length source.now) text.now) result }
+    ensures leaves { IfOk result (λ r. IsEnd text.now r.1.now) }
     ensures fits { IfOk result (λ r. SpecFits source.now r.0) }
 {
-    if has(source, at, b':') {
-        options_at(alloc, source, at + 1)
-    } else {
-        Ok((FormatSpec::default(), at))
+    match strip(text, b':') {
+        Some(rest) => {
+            let (spec, rest) = options(alloc, source, rest)?;
+            Ok((spec, rest))
+        }
+        None => Ok((FormatSpec::default(), text)),
     }
 }
 
-#[tactic(auto, unfolding(crate::specs::Segments::placeholder_at))]
-fn placeholder_at(alloc: Global, source: &str, at: usize) -> Result<(Segment, usize), Error>
-    requires inside { at < length source.now }
-    requires boundary { IsCharBoundary source.now at }
-    ensures value { Answers result (placeholder_at source.now at) }
-    ensures placed { IfOk result (λ r. IsPlaced source.now at r.1 r.0) }
+// The placeholder whose `{` stands in front.
+#[tactic(auto, unfolding(crate::specs::Placeholders::placeholder_of))]
+fn placeholder<'t>(
+    alloc: Global,
+    source: &str,
+    text: &'t str,
+) -> Result<(Placeholder, &'t str), Error>
+    requires end { IsEnd source.now text.now }
+    requires open { slice_index text.now 0 ≡ 123 }
+    ensures value { Answers (λ r. (r.0, r.1.now)) (placeholder_of (length source.now) text.now) result }
+    ensures leaves { IfOk result (λ r. IsEnd text.now r.1.now) }
+    ensures shorter { IfOk result (λ r. length r.1.now < length text.now) }
+    ensures fits { IfOk result (λ r. PlaceholderFits source.now r.0) }
 {
-    let (argument, argument_end) = argument_at(alloc, source, at + 1)?;
-    let (spec, spec_end) = spec_at(alloc, source, argument_end)?;
-    if !has(source, spec_end, b'}') {
-        return refuse(alloc, at, spec_end, "unmatched `{`");
-    }
-    let span = Span {
-        start: at,
-        end: spec_end + 1,
-    };
-    let placeholder = Placeholder {
-        argument,
-        spec,
-        span,
-    };
-    Ok((Segment::Placeholder(placeholder), spec_end + 1))
-}
-
-fn open_at(alloc: Global, source: &str, at: usize) -> Result<(Segment, usize), Error>
-    requires inside { at < length source.now }
-    requires boundary { IsCharBoundary source.now at }
-    ensures value { Answers result (open_at source.now at) }
-    ensures placed { IfOk result (λ r. IsPlaced source.now at r.1 r.0) }
-{
-    if has(source, at + 1, b'{') {
-        Ok((Segment::EscapedOpen, at + 2))
-    } else {
-        placeholder_at(alloc, source, at)
+    let (argument, rest) = argument(alloc, source, skip_byte(text))?;
+    let (spec, rest) = spec(alloc, source, rest)?;
+    match strip(rest, b'}') {
+        Some(rest) => {
+            let span = span_between(source, text, rest);
+            let placeholder = Placeholder {
+                argument,
+                spec,
+                span,
+            };
+            Ok((placeholder, rest))
+        }
+        None => {
+            let span = span_between(source, text, rest);
+            Err(refusal(alloc, span, "unmatched `{`"))
+        }
     }
 }
 
-fn close_at(alloc: Global, source: &str, at: usize) -> Result<(Segment, usize), Error>
-    requires inside { at < length source.now }
-    ensures value { Answers result (close_at source.now at) }
-    ensures placed { IfOk result (λ r. IsPlaced source.now at r.1 r.0) }
+// The segment whose `{` stands in front.
+fn open<'t>(alloc: Global, source: &str, text: &'t str) -> Result<(Segment, &'t str), Error>
+    requires end { IsEnd source.now text.now }
+    requires open { slice_index text.now 0 ≡ 123 }
+    ensures ok { IfOk result (λ r. IsSegment (length source.now) r.0 text.now r.1.now) }
+    ensures err { IfErr result (λ e. Tells e (BeginsWithFault (length source.now) text.now)) }
+    ensures leaves { IfOk result (λ r. IsEnd text.now r.1.now) }
+    ensures shorter { IfOk result (λ r. length r.1.now < length text.now) }
+    ensures fits { IfOk result (λ r. SegmentFits source.now r.0) }
 {
-    if has(source, at + 1, b'}') {
-        Ok((Segment::EscapedClose, at + 2))
-    } else {
-        refuse(alloc, at, at + 1, "unmatched `}`")
+    match strip(skip_byte(text), b'{') {
+        Some(rest) => Ok((Segment::EscapedOpen, rest)),
+        None => {
+            let (placeholder, rest) = placeholder(alloc, source, text)?;
+            Ok((Segment::Placeholder(placeholder), rest))
+        }
     }
 }
 
-fn segment_at(alloc: Global, source: &str, at: usize) -> Result<(Segment, usize), Error>
-    requires inside { at < length source.now }
-    requires boundary { IsCharBoundary source.now at }
-    ensures value { Answers result (segment_at source.now at) }
-    ensures placed { IfOk result (λ r. IsPlaced source.now at r.1 r.0) }
+// The segment whose `}` stands in front.
+fn close<'t>(alloc: Global, source: &str, text: &'t str) -> Result<(Segment, &'t str), Error>
+    requires end { IsEnd source.now text.now }
+    requires close { slice_index text.now 0 ≡ 125 }
+    ensures ok { IfOk result (λ r. IsSegment (length source.now) r.0 text.now r.1.now) }
+    ensures err { IfErr result (λ e. Tells e (BeginsWithFault (length source.now) text.now)) }
+    ensures leaves { IfOk result (λ r. IsEnd text.now r.1.now) }
+    ensures shorter { IfOk result (λ r. length r.1.now < length text.now) }
+    ensures fits { IfOk result (λ r. SegmentFits source.now r.0) }
 {
-    if has(source, at, b'{') {
-        return open_at(alloc, source, at);
+    let rest = skip_byte(text);
+    match strip(rest, b'}') {
+        Some(rest) => Ok((Segment::EscapedClose, rest)),
+        None => {
+            let span = span_between(source, text, rest);
+            Err(refusal(alloc, span, "unmatched `}`"))
+        }
     }
-    if has(source, at, b'}') {
-        return close_at(alloc, source, at);
+}
+
+// The segment in front, and what follows it.
+fn segment<'t>(alloc: Global, source: &str, text: &'t str) -> Result<(Segment, &'t str), Error>
+    requires end { IsEnd source.now text.now }
+    requires some { 0 < length text.now }
+    ensures ok { IfOk result (λ r. IsSegment (length source.now) r.0 text.now r.1.now) }
+    ensures err { IfErr result (λ e. Tells e (BeginsWithFault (length source.now) text.now)) }
+    ensures leaves { IfOk result (λ r. IsEnd text.now r.1.now) }
+    ensures shorter { IfOk result (λ r. length r.1.now < length text.now) }
+    ensures fits { IfOk result (λ r. SegmentFits source.now r.0) }
+{
+    match first_byte(text) {
+        b'{' => open(alloc, source, text),
+        b'}' => close(alloc, source, text),
+        _ => {
+            let rest = skip_plain(text);
+            Ok((Segment::Literal(span_between(source, text, rest)), rest))
+        }
     }
-    let end = plain_end(source, at);
-    Ok((Segment::Literal(Span { start: at, end }), end))
 }
 
 /// Reads a template into its segments. Outside the grammar it answers `Error::Parse`, with the first place that can't be
 /// read and a message about it.
 pub fn parse(alloc: Global, source: &str) -> Result<FormatString, Error>
-    ensures spells { IfOk result (λ p. Spells source.now p.segments.items) }
-    ensures outside { IfErr result (Refuses source.now) }
-
-    // The same as a function, which also says which fault is the first.
-    ensures ok { IfOk result (λ p. segments_of source.now ≡ Ok p.segments.items) }
-    ensures err { IfErr result (λ e. Tells e (segments_of source.now)) }
+    ensures ok { IfOk result (λ p. Spells source.now p.segments.items) }
+    ensures err { IfErr result (λ e. Tells e (HasFault source.now)) }
+    ensures outside { IfErr result (λ e. Tells e (λ _. IsTemplate source.now → ⊥)) }
 
     // Each span lies between characters, and the segments stand end to end.
     ensures fits { IfOk result (λ p. Fits source.now p.segments.items) }
     ensures tiles { IfOk result (λ p. Tiles (length source.now) 0 p.segments.items) }
 {
     let mut segments = Vec::new(alloc);
-    let mut at = 0;
-    'segments: while at < source.len() {
-        let (segment, end) = segment_at(alloc, source, at)?;
+    let mut rest = source;
+    'segments: while !rest.is_empty() {
+        let (segment, after) = segment(alloc, source, rest)?;
         if segments.push(segment).is_err() {
             return Err(Error::NoMemory);
         }
-        at = end;
+        rest = after;
     }
     Ok(FormatString { segments })
 }

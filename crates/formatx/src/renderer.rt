@@ -1,8 +1,8 @@
 // A template with its values.
-ghost use Rattle.std.specs.Prelude.{◌≡◌, ◌++◌, ◌∷◌, [], IfErr, IfOk, OnErr, OnOk, Ok, true, false, length, map, string_bytes};
+ghost use Rattle.std.specs.Prelude.{◌≡◌, ◌++◌, ◌∷◌, [], IfErr, IfOk, OnErr, OnOk, Err, Ok, true, false, length, map, string_bytes};
 ghost use Rattle.formatx.specs.Fault.{Tells};
 ghost use Rattle.formatx.specs.Templates.{filled};
-ghost use Rattle.formatx.specs.Text.{formatted};
+ghost use Rattle.formatx.specs.Text.{Prints};
 
 use crate::error::Error;
 use crate::template::Template;
@@ -43,7 +43,8 @@ impl<'a, V: FormatValue> Renderer<'a, V> {
         }
     }
 
-    fn add(&mut self, value: V) -> Result<(), Error>
+    /// Adds a value at the next position. Without memory the value is dropped.
+    pub fn add(&mut self, value: V) -> Result<(), Error>
         ensures ok { OnOk result (self.new ≡ record self.old { values = self.old.values ++ value ∷ [] }) }
         ensures err { OnErr result (self.new ≡ self.old) }
         ensures memory { IfErr result (λ e. e ≡ Error.NoMemory) }
@@ -54,7 +55,9 @@ impl<'a, V: FormatValue> Renderer<'a, V> {
         }
     }
 
-    fn add_named(&mut self, name: &str, value: V) -> Result<(), Error>
+    /// Adds a value at the next position, and a name for this position; where a name comes twice, the first counts. Without
+    /// memory the value is dropped.
+    pub fn add_named(&mut self, name: &str, value: V) -> Result<(), Error>
         ensures ok { OnOk result (self.new ≡ record self.old { values = self.old.values ++ value ∷ []; names = self.old.names ++ record { name = name.now; index = length self.old.values } ∷ [] }) }
         ensures err { OnErr result (self.new ≡ self.old) }
         ensures memory { IfErr result (λ e. e ≡ Error.NoMemory) }
@@ -69,7 +72,7 @@ impl<'a, V: FormatValue> Renderer<'a, V> {
         Ok(())
     }
 
-    /// Adds a value at the next position. Without memory the value is dropped, and the rest stays as before.
+    /// The same as `add`, and answers the renderer.
     pub fn arg(&mut self, value: V) -> Result<&mut Self, Error>
         ensures same { IfOk result (λ r. r.ghost_name ≡ self.entry.ghost_name) }
         ensures ok { IfOk result (λ r. r.now ≡ record self.old { values = self.old.values ++ value ∷ [] }) }
@@ -79,8 +82,7 @@ impl<'a, V: FormatValue> Renderer<'a, V> {
         Ok(self)
     }
 
-    /// Adds a value at the next position, and a name for this position. Where a name comes twice, the first counts. Without
-    /// memory the value is dropped, and the rest stays as before.
+    /// The same as `add_named`, and answers the renderer.
     pub fn named(&mut self, name: &str, value: V) -> Result<&mut Self, Error>
         ensures same { IfOk result (λ r. r.ghost_name ≡ self.entry.ghost_name) }
         ensures ok { IfOk result (λ r. r.now ≡ record self.old { values = self.old.values ++ value ∷ []; names = self.old.names ++ record { name = name.now; index = length self.old.values } ∷ [] }) }
@@ -92,27 +94,32 @@ impl<'a, V: FormatValue> Renderer<'a, V> {
 
     /// The template's text. A missing value is refused.
     pub fn finish(&self) -> Result<String, Error>
-        ensures ok { IfOk result (λ text. formatted (filled V.meaning self.now true) ≡ Ok (string_bytes text)) }
-        ensures err { IfErr result (λ e. Tells e (formatted (filled V.meaning self.now true))) }
+        ensures ok { IfOk result (λ text. Prints (filled V.meaning self.now true) (Ok (string_bytes text))) }
+        ensures err { IfErr result (λ e. Tells e (λ fault. Prints (filled V.meaning self.now true) (Err fault))) }
     {
-        self.template.print(
-            self.alloc,
-            self.values.as_slice(),
-            self.names.as_slice(),
-            true,
-        )
+        self.finish_by(true)
     }
 
     /// The template's text. A placeholder whose value is missing prints nothing.
     pub fn finish_lenient(&self) -> Result<String, Error>
-        ensures ok { IfOk result (λ text. formatted (filled V.meaning self.now false) ≡ Ok (string_bytes text)) }
-        ensures err { IfErr result (λ e. Tells e (formatted (filled V.meaning self.now false))) }
+        ensures ok { IfOk result (λ text. Prints (filled V.meaning self.now false) (Ok (string_bytes text))) }
+        ensures err { IfErr result (λ e. Tells e (λ fault. Prints (filled V.meaning self.now false) (Err fault))) }
     {
-        self.template.print(
+        self.finish_by(false)
+    }
+
+    fn finish_by(&self, strict: bool) -> Result<String, Error>
+        ensures ok { IfOk result (λ text. Prints (filled V.meaning self.now strict) (Ok (string_bytes text))) }
+        ensures err { IfErr result (λ e. Tells e (λ fault. Prints (filled V.meaning self.now strict) (Err fault))) }
+    {
+        let mut text = String::new(self.alloc);
+        self.template.render_into(
             self.alloc,
+            &mut text,
             self.values.as_slice(),
             self.names.as_slice(),
-            false,
-        )
+            strict,
+        )?;
+        Ok(text)
     }
 }

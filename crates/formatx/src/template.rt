@@ -1,19 +1,18 @@
 // A template with its source: parsed once, printed many times.
-ghost use Rattle.std.specs.Prelude.{◌≡◌, ◌∷◌, ◌↔◌, [], Contains, IfErr, IfOk, IsOk, IsTrue, MatchOption, OnOk, Ok, map, string_bytes};
+ghost use Rattle.std.specs.Prelude.{◌≡◌, ◌∷◌, ◌↔◌, ℕ, List, [], Contains, Err, IfErr, IfOk, IsTrue, MatchOption, OnErr, OnOk, map, string_bytes};
 ghost use Rattle.formatx.specs.Fault.{Tells};
-ghost use Rattle.formatx.specs.Segments.{segments_of};
-ghost use Rattle.formatx.specs.Grammar.{IsTemplate, Refuses};
+ghost use Rattle.formatx.specs.Grammar.{HasFault, IsTemplate};
 ghost use Rattle.formatx.specs.Spans.{Fits, SegmentFits};
-ghost use Rattle.formatx.specs.Templates.{names_in, names_of, segment_names};
+ghost use Rattle.formatx.specs.Templates.{HasNames, names_in, segment_names};
 ghost use Rattle.formatx.specs.Scene.{scene_over};
-ghost use Rattle.formatx.specs.Text.{formatted};
+ghost use Rattle.formatx.specs.Text.{AppendsPrinted, Prints};
 
 use crate::ast::{Argument, FormatString, Segment};
 use crate::error::Error;
-use crate::format;
+use crate::format::render;
 use crate::parser::parse;
 use crate::renderer::Renderer;
-use crate::value::{FormatValue, Name};
+use crate::value::{FormatValue, Name, take_back};
 use std::alloc::Global;
 use std::fmt;
 use std::marker::Model;
@@ -27,7 +26,7 @@ pub struct Template {
 
 impl Model for Template {
     ghost use Rattle.std.specs.Prelude.{List, ℕ, string_bytes};
-    ghost use Rattle.formatx.specs.Templates.{IsParsed};
+    ghost use Rattle.formatx.specs.Inner.Parsed.{IsParsed};
 
     ghost Value = { List ℕ };
 
@@ -110,11 +109,8 @@ impl Template {
     pub fn new(alloc: Global, source: &str) -> Result<Template, Error>
         ensures ok { IfOk result (λ t. t ≡ source.now) }
         ensures spells { OnOk result (IsTemplate source.now) }
-        ensures outside { IfErr result (Refuses source.now) }
-
-        // The same as a function, which also says which fault is the first.
-        ensures parsed { OnOk result (IsOk (segments_of source.now)) }
-        ensures err { IfErr result (λ e. Tells e (segments_of source.now)) }
+        ensures err { IfErr result (λ e. Tells e (HasFault source.now)) }
+        ensures outside { IfErr result (λ e. Tells e (λ _. IsTemplate source.now → ⊥)) }
     {
         let parsed = parse(alloc, source)?;
         let source = String::from_str(alloc, source)?;
@@ -132,14 +128,14 @@ impl Template {
 
     /// Whether a placeholder's argument has this name. The names of counts aren't looked at. It takes no memory.
     pub fn contains(&self, name: &str) -> bool
-        ensures { IsTrue result ↔ Contains (names_of self.now) name.now }
+        ensures { (names : List (List ℕ)) × HasNames self.now names × (IsTrue result ↔ Contains names name.now) }
     {
         has_name(self.source.as_str(), self.parsed.segments.as_slice(), name)
     }
 
     /// The names of the placeholders' arguments in order, repeats kept, as slices of the source.
     pub fn placeholders(&self, alloc: Global) -> Result<Vec<&str>, Error>
-        ensures ok { IfOk result (λ names. map (λ s. s.now) names.items ≡ names_of self.now) }
+        ensures ok { IfOk result (λ names. HasNames self.now (map (λ s. s.now) names.items)) }
         ensures memory { IfErr result (λ e. e ≡ Error.NoMemory) }
     {
         collect_names(alloc, self.source.as_str(), self.parsed.segments.as_slice())
@@ -152,27 +148,29 @@ impl Template {
         self.source.as_str()
     }
 
-    // What the template prints over values, as a text of its own.
-    pub(crate) fn print<V: FormatValue>(
+    /// Appends what the template prints over values: `args` by position, and `named` for the names among these positions.
+    /// Where `strict` isn't set, a placeholder whose value is missing prints nothing. After a refusal `out` is as before.
+    /// Nothing of a row is owned, and a value without options is displayed straight into `out`.
+    pub fn render_into<V: FormatValue>(
         &self,
         alloc: Global,
+        out: &mut String,
         args: &[V],
         named: &[Name],
         strict: bool,
-    ) -> Result<String, Error>
-        ensures ok { IfOk result (λ text. formatted (scene_over V.meaning self.now args.now named.now strict) ≡ Ok (string_bytes text)) }
-        ensures err { IfErr result (λ e. Tells e (formatted (scene_over V.meaning self.now args.now named.now strict))) }
+    ) -> Result<(), Error>
+        ensures ok { OnOk result (AppendsPrinted (scene_over V.meaning self.now args.now named.now strict) (string_bytes out.old) (string_bytes out.new)) }
+        ensures err { IfErr result (λ e. Tells e (λ fault. Prints (scene_over V.meaning self.now args.now named.now strict) (Err fault))) }
+        ensures unchanged { OnErr result (string_bytes out.new ≡ string_bytes out.old) }
     {
-        let mut output = String::new(alloc);
-        format::render(
-            alloc,
-            &mut output,
-            self.source.as_str(),
-            &self.parsed,
-            args,
-            named,
-            strict,
-        )?;
-        Ok(output)
+        let len = out.len();
+        let source = self.source.as_str();
+        match render(alloc, out, source, &self.parsed, args, named, strict) {
+            Ok(()) => Ok(()),
+            Err(error) => {
+                take_back(out, len);
+                Err(error)
+            }
+        }
     }
 }

@@ -56,8 +56,8 @@ pub trait FormatValue: Drop {
         ensures { result ≡ (meaning self.now).debug_shape };
 }
 
-// Takes back what was added to a text since it had this length.
-fn take_back(out: &mut String, len: usize)
+/// Takes back what was added to a text since it had this length.
+pub(crate) fn take_back(out: &mut String, len: usize)
     requires { (before : List ℕ) × (length before ≡ len) × IsUtf8 before × Extends before (string_bytes out.old) }
     ensures { string_bytes out.new ≡ take len (string_bytes out.old) }
 {

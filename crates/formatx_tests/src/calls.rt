@@ -1,5 +1,5 @@
 // Each public call once, and each carried type.
-use formatx::{DebugStyle, FormatSpec, FormatValue, Segment, Template, parse, render};
+use formatx::{DebugStyle, FormatSpec, FormatValue, Name, Segment, Template, parse, render};
 use std::alloc::Global;
 use std::test::Fail;
 
@@ -150,6 +150,39 @@ fn wide_text(rt: HostRuntime) -> Result<(), Fail> {
     let wide = renderer.arg(1)?.finish()?;
     assert_eq!(rt; wide.len(), 65537);
     assert!(rt; wide.as_str().ends_with("  1"));
+    Ok(())
+}
+
+// One template over two rows, and a third that lacks a value.
+#[test]
+fn rows_into_a_text(rt: HostRuntime) -> Result<(), Fail> {
+    let alloc = rt.alloc();
+    let template = Template::new(alloc, "{0:>3}|{n:+} ")?;
+    let named = [Name {
+        name: String::from_str(alloc, "n")?,
+        index: 1,
+    }];
+    let mut out = String::from_str(alloc, "rows ")?;
+    template.render_into::<u8>(alloc, &mut out, &[1, 2], &named, true)?;
+    template.render_into::<u8>(alloc, &mut out, &[30, 4], &named, true)?;
+    assert!(rt;
+        template
+            .render_into::<u8>(alloc, &mut out, &[5], &named, true)
+            .is_err()
+    );
+    template.render_into::<u8>(alloc, &mut out, &[6], &named, false)?;
+    assert_eq!(rt; out.as_str(), "rows   1|+2  30|+4   6| ");
+    Ok(())
+}
+
+#[test]
+fn values_added(rt: HostRuntime) -> Result<(), Fail> {
+    let alloc = rt.alloc();
+    let template = Template::new(alloc, "{x}{}{}")?;
+    let mut renderer = template.render::<u8>(alloc);
+    renderer.add(1)?;
+    renderer.add_named("x", 2)?;
+    assert_eq!(rt; renderer.finish()?.as_str(), "212");
     Ok(())
 }
 

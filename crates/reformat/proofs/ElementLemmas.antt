@@ -5,15 +5,16 @@ use Rattle.std.specs.Fmt.{decimal}
 use Rattle.std.proofs.lemmas.Fmt.{decimal_injective}
 use Rattle.std.proofs.lemmas.List.{drop_more}
 use Rattle.std.proofs.lemmas.List.Elements.{recursion_from_All}
-use Rattle.sprintf.specs.Printed.{printed, take_field, onto}
+use Rattle.sprintf.specs.Printed.{printed, onto}
 use Rattle.sprintf.specs.declared.PrintfError.{PrintfError}
 use Rattle.sprintf.specs.declared.parser.ConversionSpecifier.{ConversionSpecifier}
 use Rattle.sprintf.specs.declared.parser.ConversionType.TheVariants.{PercentSign}
 use Rattle.sprintf.specs.declared.parser.FormatElement.{FormatElement}
 use Rattle.sprintf.specs.declared.parser.FormatElement.TheVariants.{Verbatim, Format}
-use Rattle.reformat.specs.Format.{BeginsApart, IsPlain, IsSeparated, IsRow, values_of}
-use Rattle.reformat.specs.Pieces.{Piece, Number, piece_text, Fit, flat, bytes_onto}
-use Rattle.reformat.specs.ElementRead.{Reaches, ReadsTo, Reads, ReadsElement}
+use Rattle.reformat.specs.Format.{BeginsApart, IsPlain, IsSeparated}
+use Rattle.reformat.specs.Inner.Numbers.{IsNumberRow, values_of}
+use Rattle.reformat.specs.Inner.Pieces.{Piece, Number, piece_text, Fit, flat, bytes_onto}
+use Rattle.reformat.specs.Inner.ElementRead.{Reaches, ReadsTo, Reads, ReadsElement}
 use Rattle.reformat.proofs.UniqueRow.{map_some, one_cut, digits-decimal}
 use Rattle.reformat.proofs.ReadsRow.{Field, past_byte, past_number, reaches_first}
 use Rattle.reformat.proofs.FlatRow.{bytes_text, percent_piece, plain_piece, other_piece, percent_takes, field_takes, then_is, flat_apart, flat_row}
@@ -97,7 +98,7 @@ field_text : (f : ConversionSpecifier) (elements : List FormatElement) (numbers 
 field_text f elements [] line plain more fit e = absurd (cc)
 field_text f elements (n ∷ numbers) line plain more fit e =
     let step = map_some (λ t. decimal n ++ t) (piece_text (flat elements) numbers) line e in
-    then_is (take_field f (values_of (n ∷ numbers))) (decimal n) (values_of numbers) elements (field_takes f plain n (values_of numbers) fit.0)
+    then_is f (values_of (n ∷ numbers)) (values_of numbers) (decimal n) elements (field_takes f plain n (values_of numbers) fit.0)
     ∙ ap (λ (r : Result (List ℕ) PrintfError). onto (decimal n) r) (more numbers step.0 fit.1 step.1) ∙ ap Ok step.2
 
 pub text_of_flat : (elements : List FormatElement) (numbers line : List ℕ) → IsSeparated elements → Fit numbers → piece_text (flat elements) numbers ≡ Some line → printed elements (values_of numbers) ≡ Ok line
@@ -110,7 +111,7 @@ text_of_flat (Format f ∷ elements) numbers line apart fit e =
     elim apart.0 [
       | inl percent ↦
           let step = map_some (λ t. 37 ∷ t) (piece_text (flat elements) numbers) line (ap (λ (p : Piece). piece_text (p ∷ flat elements) numbers) (sym (percent_piece f percent)) ∙ e) in
-          then_is (take_field f (values_of numbers)) (37 ∷ []) (values_of numbers) elements (percent_takes f percent (values_of numbers))
+          then_is f (values_of numbers) (values_of numbers) (37 ∷ []) elements (percent_takes f percent (values_of numbers))
           ∙ ap (λ (r : Result (List ℕ) PrintfError). onto (37 ∷ []) r) (text_of_flat elements numbers step.0 apart.1 fit step.1) ∙ ap Ok step.2
       | inr plain ↦ field_text f elements numbers line plain.0 (λ ns l fits d. text_of_flat elements ns l apart.1 fits d) fit
           (ap (λ (p : Piece). piece_text (p ∷ flat elements) numbers) (sym (plain_piece f plain.0)) ∙ e)
@@ -162,7 +163,7 @@ no_number_element element f text old is other none = number_not_read element tex
 pub elements_first : (elements : List FormatElement) (line : List ℕ) → ReadsTo (flat elements) line (flat elements) line []
 elements_first elements line = λ tail e. e
 
-pub row_is : (elements : List FormatElement) (line rest numbers : List ℕ) → IsSeparated elements → All (λ n. n < 2 ^ 64) numbers → ReadsTo (flat elements) line [] rest numbers → rest ≡ [] → IsRow elements line numbers
+pub row_is : (elements : List FormatElement) (line rest numbers : List ℕ) → IsSeparated elements → All (λ n. n < 2 ^ 64) numbers → ReadsTo (flat elements) line [] rest numbers → rest ≡ [] → IsNumberRow elements line numbers
 row_is elements line rest numbers apart fit before none = record {
   text = text_of_flat elements numbers line apart (recursion_from_All _ numbers fit) (ap (λ (ns : List ℕ). piece_text (flat elements) ns) (sym (append-nil numbers)) ∙ before [] (ap Some (sym none)));
   fit = fit;
@@ -175,7 +176,7 @@ none_left (n ∷ left) rest e = absurd (cc)
 pub no_row_is : (rest read numbers : List ℕ) → Reaches [] rest read numbers → rest ≡ []
 no_row_is rest read numbers here = none_left here.left rest here.text
 
-pub row_reaches : (elements : List FormatElement) (line numbers : List ℕ) → IsSeparated elements → IsRow elements line numbers → Reaches (flat elements) line [] numbers
+pub row_reaches : (elements : List FormatElement) (line numbers : List ℕ) → IsSeparated elements → IsNumberRow elements line numbers → Reaches (flat elements) line [] numbers
 row_reaches elements line numbers apart row = reaches_first (flat elements) line numbers (flat_apart elements apart) (flat_row elements line numbers apart row)
 
 pub fits_push : (old : List ℕ) (n : ℕ) → n < 2 ^ 64 → All (λ number. number < 2 ^ 64) old → All (λ number. number < 2 ^ 64) (old ++ n ∷ [])

@@ -1,15 +1,14 @@
-pub mod LineLemmas
-pub mod UniqueRow
-pub mod FirstNumber
-pub mod ReadsRow
-pub mod FlatRow
-pub mod ElementLemmas
-pub mod NextLemmas
-pub mod JobLemmas
-pub mod RowLemmas
-pub mod StageLemmas
-pub mod RefusalLemmas
-pub mod ReformatLemmas
-pub mod WordLemmas
-pub mod MessageLemmas
-pub mod Faults
+mod UniqueRow
+mod FirstNumber
+mod ReadsRow
+mod FlatRow
+mod ElementLemmas
+mod Faults
+mod SameForm
+mod RowBridge
+mod RowLemmas
+mod HeaderLemmas
+mod RewriteLemmas
+mod ReformatLemmas
+mod WordTest
+mod MessageLemmas

@@ -1,146 +1,106 @@
--- The clauses of the rewriting job, from those of the job from its first line on.
-use Rattle.std.proofs.Common.{◌≡◌, ◌⊎◌, ◌+◌, ◌-◌, ◌<◌, ◌≤◌, ◌++◌, ℕ, List, [], sym, ap, subst, refl, inl, inr, length, arith, zero-add, Option, Some, None, Result, Ok, Err, IfSome, IsErrOf}
-use Rattle.std.specs.Io.KnownBytes.{Appends}
-use Rattle.edge_io.specs.Supply.{Supply, borrowed}
+-- The clauses of the rewriting job, from those of a run by its rules.
+use Rattle.std.proofs.Common.{◌≡◌, ◌⊎◌, ◌+◌, ◌-◌, ◌≤◌, ℕ, List, [], ◌∷◌, length, sym, ap, ◌∙◌, subst, refl, inl, inr, arith, Option, Some, None, Result, Ok, Err, OnOk, IfSome, IsOk, IsErrOf}
+use Rattle.std.specs.Io.KnownBytes.{IsAtEnd}
 use Rattle.whiteread.specs.Lines.{lines_of}
+use Rattle.line_job.specs.declared.stop.Stop.{Stop}
+use Rattle.line_job.specs.declared.stop.Stop.TheVariants.{Line, NotUtf8, TooLong, ReadFault, WriteFault, NoMemory}
+use Rattle.line_job.specs.Ends.{Seen, SourceState, SinkState, CountsReadFault, CountsWriteFault, Took}
+use Rattle.line_job.specs.Runs.{Runs, IsKept}
+use Rattle.line_job.specs.Told.{RunsTold, result_status, status_of}
+use Rattle.reformat.specs.declared.error.LineCause.{LineCause}
+use Rattle.reformat.specs.declared.error.LineCause.TheVariants.{Header, SourceFormat, Template, NotARow, Render, NotBuilt}
 use Rattle.reformat.specs.declared.error.ReformatError.{ReformatError}
-use Rattle.reformat.specs.declared.error.ReformatError.TheVariants.{Header, SourceFormat, Template, Render, NotARow, NotBuilt, NotUtf8, NoMemory, ReadFault, WriteFault, TooLong}
-use Rattle.reformat.specs.Reached.{IsEndReached, ended_lines, reached_lines}
-use Rattle.reformat.specs.Refusal.{Refuses, RefusesLines}
-use Rattle.reformat.specs.Reformats.{Reformats, IsOfLines, StopsEarly, Wrote}
-use Rattle.reformat.specs.Rewrite.{AreKept}
-use Rattle.reformat.specs.Job.{kinds_next, ends_of, View, Job}
-use Rattle.reformat.proofs.LineLemmas.{reached_all, reached_ended}
-use Rattle.reformat.proofs.JobLemmas.{maps, any_is}
-use Rattle.reformat.proofs.RefusalLemmas.{lines_one, kept_is_not_refused, kept_is_rewritten, rewritten_is_kept}
+use Rattle.reformat.specs.declared.error.ReformatError.TheVariants.{NoMemory as ErrorNoMemory}
+use Rattle.reformat.specs.Message.{cause_message}
+use Rattle.reformat.specs.Error.{error_of}
+use Rattle.reformat.specs.Rewritten.{IsRewritten, AreRewritten}
+use Rattle.reformat.specs.Reformats.{Reformats, WritesAll, reformat_result}
+use Rattle.reformat.specs.Run.{Completes, input_limit}
+use Rattle.reformat.specs.Rules.{kinds_next, rewrite_rules}
+use Rattle.reformat.proofs.RewriteLemmas.{kept_is_rewritten, rewritten_is_kept}
 
--- the view of a reader that has taken nothing
-abbrev pub first_view : {B : Type 0} → B → ℕ → View B
-first_view input limit = record { source = input; waiting = []; room = limit; line = [] }
+abbrev stopped : Stop LineCause → Result ℕ (Stop LineCause)
+stopped stop = Err stop
+
+abbrev refused : ReformatError → Result ℕ ReformatError
+refused why = Err why
+
+maps : (r0 : Option (List ℕ)) (P Q : List ℕ → Type 0) → ((bytes : List ℕ) → P bytes → Q bytes) → IfSome r0 P → IfSome r0 Q
+maps None P Q f h = tt
+maps (Some xs) P Q f h = f xs h
 
 both : (r0 : Option (List ℕ)) (P Q R : List ℕ → Type 0) → ((bytes : List ℕ) → P bytes → Q bytes → R bytes) → IfSome r0 P → IfSome r0 Q → IfSome r0 R
 both None P Q R f p q = tt
 both (Some xs) P Q R f p q = f xs p q
 
-abbrev refusal : ReformatError → Result ℕ ReformatError
-refusal why = Err why
+any_is : (r0 : Option (List ℕ)) (P : List ℕ → Type 0) → ((bytes : List ℕ) → P bytes) → IfSome r0 P
+any_is None P here = tt
+any_is (Some xs) P here = here xs
 
-stops_read : StopsEarly (Err ReadFault)
-stops_read = inl refl
+kept_writes : (input : Seen SourceState) (output : Seen SinkState)
+    → IfSome input.before.rest (λ bytes. IsAtEnd input.after.rest × ((text : List ℕ) × IsKept rewrite_rules kinds_next bytes text × Took output text)) → WritesAll input output
+kept_writes input output h = maps input.before.rest _ _ (λ bytes here. (here.0, (here.1.0, kept_is_rewritten (lines_of bytes) here.1.0 here.1.1, here.1.2))) h
 
-stops_write : StopsEarly (Err WriteFault)
-stops_write = inr (inl refl)
+four : (a b c d : List ℕ) (rows : List (List ℕ)) → length (a ∷ b ∷ c ∷ d ∷ rows) ≡ length rows + 4
+four a b c d rows = omega arith
 
-stops_memory : StopsEarly (Err NoMemory)
-stops_memory = inr (inr refl)
+memory : (stop : Stop LineCause) → IsErrOf (stopped stop) NoMemory → IsErrOf (refused (error_of stop)) ErrorNoMemory
+memory stop e = let same : stop ≡ NoMemory = cc in ap (λ (s : Stop LineCause). refused (error_of s)) same
 
-pub ok_is : {S K : Type 0} (supply : Supply S) (held : K → Option (List ℕ)) (sink_faults : K → ℕ) (input input' : S) (output output' : K) (limit n : ℕ)
-    → Job (ends_of supply held sink_faults) kinds_next [] (first_view input limit) input' output output' (Ok n)
-    → Reformats supply held sink_faults input input' output output' limit (Ok n)
-ok_is supply held sink_faults input input' output output' limit n job =
-    let within : supply.given input' ≤ supply.given input + limit = elim job.within [ inl e ↦ absurd (cc) | inr h ↦ h ] in
-    record {
-      rewritten = both (supply.rest input) _ _ _ (λ bytes here count. (here.0, (here.1.0, kept_is_rewritten bytes here.1.0 here.1.1 (omega (arith, count.0)), here.1.2))) job.rewritten job.rows;
-      rows = maps (supply.rest input) _ _ (λ bytes count. omega (arith, count.0)) job.rows;
-      refused = tt;
-      refuses = both (supply.rest input) _ _ _ (λ bytes here count text why bad. absurd (kept_is_not_refused (IsEndReached limit bytes) (lines_of bytes) here.1.0 text why here.1.1 (λ end. omega (arith, count.0))
-          (subst (λ (ls : List (List ℕ)). RefusesLines (IsEndReached limit bytes) ls text why) (reached_all limit bytes (omega (arith, count.1))) bad))) job.rewritten job.rows;
-      too_long = ((λ e. absurd (cc)), (λ lt. absurd (omega (arith, within, lt))));
-      taken = omega (arith, within);
-      past_limit = λ e. absurd (cc);
-      read_fault = λ e. absurd (cc);
-      after_read_fault = λ e. absurd (cc);
-      reads = job.reads;
-      write_fault = λ e. absurd (cc);
-      writes = job.writes;
-      stopped = λ e. elim e [ inl w ↦ absurd (cc) | inr w ↦ absurd (cc) ];
-      complete = any_is (supply.rest input) _ (λ bytes text written le a b. inl refl);
-    }
+-- rewritten lines are four headers and rows
+four_more : (lines : List (List ℕ)) (text : List ℕ) (n : ℕ) → AreRewritten lines text → length lines ≡ n → length lines ≡ (n - 4) + 4
+four_more lines text n r e =
+    let long : length lines ≡ length r.rows + 4 = ap length r.lines_are ∙ four r.kinds_line r.layout.format r.dialect_line r.layout.template r.rows in
+    omega (arith, long, e)
 
--- what a refusal can be
-Kind : ReformatError → Type 0
-Kind why = IsOfLines why ⊎ ((why ≡ TooLong) ⊎ ((why ≡ ReadFault) ⊎ ((why ≡ WriteFault) ⊎ (why ≡ NoMemory))))
+must_end : (limit : ℕ) (input : Seen SourceState) (output : Seen SinkState) (answer : Result ℕ (Stop LineCause)) → Runs rewrite_rules kinds_next limit input output answer
+    → IfSome input.before.rest (λ bytes. (text : List ℕ) → IsRewritten bytes text → length bytes ≤ limit → ¬ CountsReadFault input → ¬ CountsWriteFault output → IsOk answer ⊎ IsErrOf answer NoMemory)
+must_end limit input output answer runs = maps input.before.rest _ _ (λ bytes here text r le a b. here text (rewritten_is_kept (lines_of bytes) text r) le a b) runs.complete
 
-kind_of : (why : ReformatError) → Kind why
-unfolding Kind
-kind_of (Header line) = inl tt
-kind_of SourceFormat = inl tt
-kind_of (Template fault) = inl tt
-kind_of (Render line fault) = inl tt
-kind_of (NotARow line) = inl tt
-kind_of (NotBuilt line) = inl tt
-kind_of (NotUtf8 line) = inl tt
-kind_of TooLong = inr (inl refl)
-kind_of ReadFault = inr (inr (inl refl))
-kind_of WriteFault = inr (inr (inr (inl refl)))
-kind_of NoMemory = inr (inr (inr (inr refl)))
+pub reformats : (limit : ℕ) (input : Seen SourceState) (output : Seen SinkState) (answer : Result ℕ (Stop LineCause)) (result : Result ℕ ReformatError) → Runs rewrite_rules kinds_next limit input output answer
+    → result ≡ reformat_result answer → Reformats limit input output result
+reformats limit input output (Ok lines) result runs is = subst (Reformats limit input output) (sym is) (record {
+  answer = Ok lines;
+  runs = runs;
+  result_is = refl;
+  rewritten = kept_writes input output runs.kept;
+  rows = both input.before.rest _ _ _ (λ bytes here count. four_more (lines_of bytes) here.1.0 lines here.1.1 count) (kept_writes input output runs.kept) runs.lines;
+  complete = any_is input.before.rest _ (λ bytes text r le a b. inl refl);
+})
+reformats limit input output (Err stop) result runs is = subst (Reformats limit input output) (sym is) (record {
+  answer = Err stop;
+  runs = runs;
+  result_is = refl;
+  rewritten = tt;
+  rows = tt;
+  complete = maps input.before.rest _ _ (λ bytes here text r le a b. elim (here text r le a b) [
+    | inl ok ↦ absurd (cc)
+    | inr none ↦ inr (memory stop none)
+  ]) (must_end limit input output (Err stop) runs);
+})
 
-pub err_is : {S K : Type 0} (supply : Supply S) (held : K → Option (List ℕ)) (sink_faults : K → ℕ) (input input' : S) (output output' : K) (limit : ℕ) (why : ReformatError)
-    → Job (ends_of supply held sink_faults) kinds_next [] (first_view input limit) input' output output' (Err why)
-    → Reformats supply held sink_faults input input' output output' limit (Err why)
-unfolding Kind
-err_is supply held sink_faults input input' output output' limit why job =
-    let same : 0 + limit ≡ limit = zero-add limit in
-    let seen : 0 + (supply.given input' - supply.given input) ≡ supply.given input' - supply.given input = zero-add (supply.given input' - supply.given input) in
-    let refused : IsOfLines why → IfSome (supply.rest input) (λ bytes. (text : List ℕ) × Refuses limit bytes text why × Appends (held output) (held output') text) =
-    λ of_lines. maps (supply.rest input) _ _ (λ bytes here. (here.0, subst (λ (l : ℕ). Refuses l bytes here.0 why) same here.1, here.2)) (job.refused of_lines) in
-    let past : IsErrOf (refusal why) TooLong → IfSome (supply.rest input) (λ bytes. (limit < length bytes) × Wrote (held output) (held output') (ended_lines limit bytes)) =
-    λ e. maps (supply.rest input) _ _ (λ bytes here. (omega (arith, here.0), (here.1.0, subst (λ (l : ℕ). AreKept (ended_lines l bytes) here.1.0) same here.1.1, here.1.2))) (job.past_limit e) in
-    record {
-      rewritten = tt;
-      rows = tt;
-      refused = refused;
-      refuses = elim (kind_of why) [
-        | inl of_lines ↦ maps (supply.rest input) _ _ (λ bytes here text other bad. inl (ap refusal (lines_one (IsEndReached limit bytes) (reached_lines limit bytes) here.0 text why other here.1 bad))) (refused of_lines)
-        | inr (inl is) ↦ maps (supply.rest input) _ _ (λ bytes here text other bad. absurd (kept_is_not_refused (IsEndReached limit bytes) (ended_lines limit bytes) here.1.0 text other here.1.1 (λ end. absurd (omega (arith, end, here.0)))
-            (subst (λ (ls : List (List ℕ)). RefusesLines (IsEndReached limit bytes) ls text other) (reached_ended limit bytes here.0) bad))) (past (ap refusal is))
-        | inr (inr (inl is)) ↦ any_is (supply.rest input) _ (λ bytes text other bad. inr (subst (λ (w : ReformatError). StopsEarly (Err w)) (sym is) stops_read))
-        | inr (inr (inr (inl is))) ↦ any_is (supply.rest input) _ (λ bytes text other bad. inr (subst (λ (w : ReformatError). StopsEarly (Err w)) (sym is) stops_write))
-        | inr (inr (inr (inr is))) ↦ any_is (supply.rest input) _ (λ bytes text other bad. inr (subst (λ (w : ReformatError). StopsEarly (Err w)) (sym is) stops_memory))
-      ];
-      too_long = ((λ e. (let h : supply.given input' ≡ supply.given input + limit + 1 = job.too_long e in omega (arith, h))), (λ lt. elim job.within [ inl e ↦ e | inr h ↦ absurd (omega (arith, h, lt)) ]));
-      taken = elim job.within [ inl e ↦ (let h : supply.given input' ≡ supply.given input + limit + 1 = job.too_long e in omega (arith, h)) | inr h ↦ omega (arith, h) ];
-      past_limit = past;
-      read_fault = job.read_fault;
-      after_read_fault = λ e. maps (supply.rest input) _ _ (λ bytes here. (here.0, subst (λ (l : ℕ). AreKept (ended_lines l bytes) here.0) seen here.1, here.2)) (job.after_read_fault e);
-      reads = job.reads;
-      write_fault = job.write_fault;
-      writes = job.writes;
-      stopped = λ e. maps (supply.rest input) _ _ (λ bytes here. (here.0, here.1, subst (λ (l : ℕ). reached_lines l bytes ≡ here.0 ++ here.1) same here.2, (here.3.0, here.3.1, here.3.2))) (job.stopped e);
-      complete = elim (kind_of why) [
-        | inl of_lines ↦ maps (supply.rest input) _ _ (λ bytes here text written le a b. (let kept = rewritten_is_kept bytes text written in
-            absurd (kept_is_not_refused (IsEndReached limit bytes) (lines_of bytes) text here.0 why kept.0 (λ end. kept.1)
-            (subst (λ (ls : List (List ℕ)). RefusesLines (IsEndReached limit bytes) ls here.0 why) (reached_all limit bytes le) here.1)))) (refused of_lines)
-        | inr (inl is) ↦ maps (supply.rest input) _ _ (λ bytes here text written le a b. absurd (omega (arith, here.0, le))) (past (ap refusal is))
-        | inr (inr (inl is)) ↦ any_is (supply.rest input) _ (λ bytes text written le a b. absurd (a (job.read_fault (ap refusal is))))
-        | inr (inr (inr (inl is))) ↦ any_is (supply.rest input) _ (λ bytes text written le a b. absurd (b (job.write_fault (ap refusal is))))
-        | inr (inr (inr (inr is))) ↦ any_is (supply.rest input) _ (λ bytes text written le a b. inr (ap refusal is))
-      ];
-    }
+-- statuses
 
-pub result_is : {S K : Type 0} (supply : Supply S) (held : K → Option (List ℕ)) (sink_faults : K → ℕ) (input input' : S) (output output' : K) (limit : ℕ) (result : Result ℕ ReformatError)
-    → Job (ends_of supply held sink_faults) kinds_next [] (first_view input limit) input' output output' result
-    → Reformats supply held sink_faults input input' output output' limit result
-result_is supply held sink_faults input input' output output' limit (Ok n) job = ok_is supply held sink_faults input input' output output' limit n job
-result_is supply held sink_faults input input' output output' limit (Err why) job = err_is supply held sink_faults input input' output output' limit why job
+not_zero : (stop : Stop LineCause) → status_of stop ≡ 0 → ⊥
+not_zero (Line why) e = absurd (omega (arith, e))
+not_zero (NotUtf8 line) e = absurd (omega (arith, e))
+not_zero TooLong e = absurd (omega (arith, e))
+not_zero ReadFault e = absurd (omega (arith, e))
+not_zero WriteFault e = absurd (omega (arith, e))
+not_zero NoMemory e = absurd (omega (arith, e))
 
--- the same job, seen at what a reference points to
-pub behind : {R S K : Type 0} (here : R → S) (name : R → ℕ) (supply : Supply S) (held : K → Option (List ℕ)) (sink_faults : K → ℕ) (input input' : R) (output output' : K) (limit : ℕ) (result : Result ℕ ReformatError)
-    → Reformats (borrowed here name supply) held sink_faults input input' output output' limit result
-    → Reformats supply held sink_faults (here input) (here input') output output' limit result
-behind here name supply held sink_faults input input' output output' limit result job = record {
-  rewritten = job.rewritten;
-  rows = job.rows;
-  refused = job.refused;
-  refuses = job.refuses;
-  too_long = job.too_long;
-  taken = job.taken;
-  past_limit = job.past_limit;
-  read_fault = job.read_fault;
-  after_read_fault = job.after_read_fault;
-  reads = job.reads;
-  write_fault = job.write_fault;
-  writes = job.writes;
-  stopped = job.stopped;
-  complete = job.complete;
-}
+of_answer : (input : Seen SourceState) (output : Seen SinkState) (answer : Result ℕ (Stop LineCause)) → Runs rewrite_rules kinds_next input_limit input output answer → result_status answer ≡ 0 → WritesAll input output
+of_answer input output (Ok lines) runs zero = kept_writes input output runs.kept
+of_answer input output (Err stop) runs zero = absurd (not_zero stop zero)
+
+status_ends : (answer : Result ℕ (Stop LineCause)) (status : ℕ) → status ≡ result_status answer → IsOk answer ⊎ IsErrOf answer NoMemory → (status ≡ 0) ⊎ (status ≡ 6)
+status_ends (Ok lines) status is end = inl is
+status_ends (Err stop) status is (inl ok) = absurd (cc)
+status_ends (Err stop) status is (inr none) = let same : stop ≡ NoMemory = cc in inr (is ∙ ap status_of same)
+
+pub told_writes : (input : Seen SourceState) (output errors : Seen SinkState) (status : ℕ) → RunsTold rewrite_rules kinds_next cause_message input_limit input output errors status → status ≡ 0 → WritesAll input output
+told_writes input output errors status told zero = of_answer input output told.result told.runs (sym told.status_is ∙ zero)
+
+pub told_completes : (input : Seen SourceState) (output errors : Seen SinkState) (status : ℕ) → RunsTold rewrite_rules kinds_next cause_message input_limit input output errors status → Completes input output status
+told_completes input output errors status told =
+    maps input.before.rest _ _ (λ bytes here text r le a b. status_ends told.result status told.status_is (here text r le a b)) (must_end input_limit input output told.result told.runs)

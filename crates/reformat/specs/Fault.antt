@@ -13,7 +13,3 @@ IsFaultOf CauseNotEnoughArgs fault = fault ≡ NotEnoughArgs
 IsFaultOf ParseError fault = ⊥
 IsFaultOf Unknown fault = ⊥
 IsFaultOf NoMemory fault = ⊥
-
--- The refusal is one that is told.
-abbrev pub IsToldFault : PrintfError → Type 0
-IsToldFault cause = (fault : RenderFault) × IsFaultOf cause fault

@@ -1,44 +1,56 @@
--- The four header lines, each with its rule.
-use Rattle.std.specs.Prelude.{◌≡◌, ℕ, List, ◌∷◌, length, All}
-use Rattle.std.specs.Str.{IsUtf8}
-use Rattle.sprintf.specs.Grammar.{IsFormat}
+-- The header lines, each with its rule, and why it is refused; the numbers are those of the lines.
+use Rattle.std.specs.Prelude.{◌≡◌, ◌≢◌, ◌⊎◌, ℕ, List, [], ◌∷◌, length, All}
+use Rattle.sprintf.specs.Grammar.{IsFormat, IsNoFormat}
 use Rattle.sprintf.specs.declared.parser.FormatElement.{FormatElement}
-use Rattle.reformat.specs.declared.kind.Dialect.TheVariants.{Printf}
-use Rattle.reformat.specs.Lines.{words_of}
-use Rattle.reformat.specs.Kinds.{NamesU64, AreDialect}
+use Rattle.whiteread.specs.Words.{words}
+use Rattle.values.specs.declared.kind.Kind.{Kind}
+use Rattle.values.specs.declared.kind.Kind.TheVariants.{U64}
+use Rattle.values.specs.Kind.{AreKinds}
+use Rattle.reformat.specs.declared.dialect.Dialect.{Dialect}
+use Rattle.reformat.specs.declared.dialect.Dialect.TheVariants.{Printf, Strfmt, Formatx}
+use Rattle.reformat.specs.declared.error.LineCause.{LineCause}
+use Rattle.reformat.specs.declared.error.LineCause.TheVariants.{Header, SourceFormat, Template, NotBuilt}
+use Rattle.reformat.specs.declared.error.TemplateFault.TheVariants.{Printf as PrintfTemplate}
+use Rattle.reformat.specs.Dialect.{dialect_word}
 use Rattle.reformat.specs.Format.{IsInForm}
 
--- line 1: words that all name u64, and how many they are
-pub record IsKindsLine (line : List ℕ) (kinds : ℕ) : Type 0 where
-  pub utf8 : IsUtf8 line
-  pub each : All NamesU64 (words_of line)
-  pub count : kinds ≡ length (words_of line)
+-- A kinds line: words that name these kinds, each of them u64 in this version.
+pub record IsKindsLine (line : List ℕ) (kinds : List Kind) : Type 0 where
+  pub named : AreKinds (words line) kinds
+  pub each : All (λ kind. kind ≡ U64) kinds
 
--- line 2: a printf format in the form that is rewritten
-pub record IsSourceLine (kinds : ℕ) (line : List ℕ) (source : List FormatElement) : Type 0 where
-  pub utf8 : IsUtf8 line
-  pub format : IsFormat line source
-  pub in_form : IsInForm kinds source
+-- A kinds line is refused: its words name no kinds, or they name kinds of which one isn't u64.
+abbrev pub RefusesKinds : ℕ → List ℕ → LineCause → Type 0
+RefusesKinds number line why = (((kinds : List Kind) → ¬ AreKinds (words line) kinds) × (why ≡ Header number))
+    ⊎ ((kinds : List Kind) × AreKinds (words line) kinds × ((others : List Kind) → ¬ IsKindsLine line others) × (why ≡ NotBuilt number))
 
--- line 3: the one word printf
-pub record IsDialectLine (line : List ℕ) : Type 0 where
-  pub utf8 : IsUtf8 line
-  pub one_word : AreDialect (words_of line) Printf
+-- A format line: a printf format in the form that is rewritten.
+abbrev pub IsFormatLine : ℕ → List ℕ → Type 0
+IsFormatLine kinds line = (elements : List FormatElement) × IsFormat line elements × IsInForm kinds elements
 
--- line 4: a printf format
-pub record IsTemplateLine (line : List ℕ) (template : List FormatElement) : Type 0 where
-  pub utf8 : IsUtf8 line
-  pub format : IsFormat line template
+-- A format line is refused: it is no printf format, or it is one in another form.
+abbrev pub RefusesFormatLine : ℕ → ℕ → List ℕ → LineCause → Type 0
+RefusesFormatLine number kinds line why = (IsNoFormat line × (why ≡ SourceFormat number))
+    ⊎ ((elements : List FormatElement) × IsFormat line elements × (¬ IsFormatLine kinds line) × (why ≡ NotBuilt number))
 
--- the lines begin with four headers that keep their rules, and the rows follow
-pub record HasHeaders (lines : List (List ℕ)) (source template : List FormatElement) (rows : List (List ℕ)) : Type 0 where
-  pub first : List ℕ
-  pub second : List ℕ
-  pub third : List ℕ
-  pub fourth : List ℕ
-  pub kinds : ℕ
-  pub lines_are : lines ≡ first ∷ second ∷ third ∷ fourth ∷ rows
-  pub kinds_line : IsKindsLine first kinds
-  pub source_line : IsSourceLine kinds second source
-  pub dialect_line : IsDialectLine third
-  pub template_line : IsTemplateLine fourth template
+-- A dialect line: the one word of the dialect, which is printf in this version.
+pub record IsDialectLine (line : List ℕ) (dialect : Dialect) : Type 0 where
+  pub one_word : words line ≡ dialect_word dialect ∷ []
+  pub built : dialect ≡ Printf
+
+-- A dialect line is refused: it isn't one word that names a dialect, or names another than printf.
+abbrev pub RefusesDialect : ℕ → List ℕ → LineCause → Type 0
+RefusesDialect number line why = (((dialect : Dialect) → words line ≢ dialect_word dialect ∷ []) × (why ≡ Header number))
+    ⊎ ((dialect : Dialect) × (words line ≡ dialect_word dialect ∷ []) × ((other : Dialect) → ¬ IsDialectLine line other) × (why ≡ NotBuilt number))
+
+-- A template line: a text in the grammar of its dialect.
+abbrev pub IsTemplateLine : Dialect → List ℕ → Type 0
+IsTemplateLine Printf line = (elements : List FormatElement) × IsFormat line elements
+IsTemplateLine Strfmt line = ⊥
+IsTemplateLine Formatx line = ⊥
+
+-- A template line is refused: it isn't in the grammar of its dialect.
+abbrev pub RefusesTemplate : ℕ → Dialect → List ℕ → LineCause → Type 0
+RefusesTemplate number Printf line why = IsNoFormat line × (why ≡ Template number PrintfTemplate)
+RefusesTemplate number Strfmt line why = ⊥
+RefusesTemplate number Formatx line why = ⊥

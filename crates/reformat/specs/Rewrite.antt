@@ -1,49 +1,50 @@
--- What is written for what is read.
-use Rattle.std.specs.Prelude.{◌≡◌, ℕ, List, [], ◌∷◌, ◌++◌, Ok}
-use Rattle.std.specs.Str.{IsUtf8}
-use Rattle.sprintf.specs.Printed.{printed}
-use Rattle.sprintf.specs.declared.parser.FormatElement.{FormatElement}
-use Rattle.whiteread.specs.Lines.{lines_of}
-use Rattle.reformat.specs.Format.{values_of, IsRow}
-use Rattle.reformat.specs.Headers.{IsKindsLine, IsSourceLine, IsDialectLine, IsTemplateLine, HasHeaders}
+-- What a row is, and what is written for it. All of it speaks of texts: a format, a template and a row are the bytes of their lines.
+use Rattle.std.specs.Prelude.{◌≡◌, ◌⊎◌, ℕ, List, [], ◌∷◌, Result, Ok, Err}
+use Rattle.std.specs.List.{AllZip}
+use Rattle.sprintf.specs.Meaning.{Meaning}
+use Rattle.sprintf.specs.Printed.{PrintsFormat, RefusesFormat}
+use Rattle.sprintf.specs.declared.PrintfError.{PrintfError}
+use Rattle.values.specs.declared.kind.Kind.{Kind}
+use Rattle.values.specs.Datum.{Datum, IsOfKind, printf_meaning}
+use Rattle.reformat.specs.declared.dialect.Dialect.{Dialect}
+use Rattle.reformat.specs.declared.dialect.Dialect.TheVariants.{Printf, Strfmt, Formatx}
+use Rattle.reformat.specs.declared.error.RenderFault.{RenderFault}
+use Rattle.reformat.specs.Fault.{IsFaultOf}
 
--- The row is the text of exactly one list of numbers, and the line is what the template prints of that list
-pub record IsRewrittenAs (source template : List FormatElement) (row line : List ℕ) : Type 0 where
-  pub utf8 : IsUtf8 row
-  pub numbers : List ℕ
-  pub is_row : IsRow source row numbers
-  pub only : (others : List ℕ) → IsRow source row others → others ≡ numbers
-  pub written : printed template (values_of numbers) ≡ Ok line
+-- What the headers say: the kinds, the format of the rows, and a dialect and the template that is written in it.
+pub record Layout : Type 0 where
+  pub kinds : List Kind
+  pub format : List ℕ
+  pub dialect : Dialect
+  pub template : List ℕ
 
--- The text is, for each row in order, the line that it is rewritten as, and a line feed
-abbrev pub IsTextOf : List FormatElement → List FormatElement → List (List ℕ) → List ℕ → Type 0
-IsTextOf source template [] text = text ≡ []
-IsTextOf source template (row ∷ rows) text = (line : List ℕ) × (rest : List ℕ) × IsRewrittenAs source template row line × (text ≡ line ++ 10 ∷ rest) × IsTextOf source template rows rest
+-- What values are to a printf format, each by its kind.
+abbrev pub meanings_of : List Kind → List Datum → List Meaning
+meanings_of [] values = []
+meanings_of (kind ∷ kinds) [] = []
+meanings_of (kind ∷ kinds) (value ∷ values) = printf_meaning kind value ∷ meanings_of kinds values
 
--- The input has headers that keep their rules, and the text is that of the rows after them
-pub record IsRewritten (input : List ℕ) (text : List ℕ) : Type 0 where
-  pub source : List FormatElement
-  pub template : List FormatElement
-  pub rows : List (List ℕ)
-  pub headers : HasHeaders (lines_of input) source template rows
-  pub text_of : IsTextOf source template rows text
+-- The row is what the format prints of these values, one of each kind.
+pub record IsRow (kinds : List Kind) (format row : List ℕ) (values : List Datum) : Type 0 where
+  pub of_kinds : AllZip IsOfKind kinds values
+  pub printed : PrintsFormat format (meanings_of kinds values) row
 
--- The lines from line 4 on keep their rules, as far as they go, and the text is that of their rows.
-abbrev pub AreKeptFromTemplate : List FormatElement → List (List ℕ) → List ℕ → Type 0
-AreKeptFromTemplate source [] text = text ≡ []
-AreKeptFromTemplate source (line ∷ rows) text = (template : List FormatElement) × IsTemplateLine line template × IsTextOf source template rows text
+-- The row is that of these values, and of no others.
+pub record IsRowOf (layout : Layout) (row : List ℕ) (values : List Datum) : Type 0 where
+  pub is_row : IsRow layout.kinds layout.format row values
+  pub only : (others : List Datum) → IsRow layout.kinds layout.format row others → others ≡ values
 
--- The lines from line 3 on keep their rules, as far as they go, and the text is that of their rows.
-abbrev pub AreKeptFromDialect : List FormatElement → List (List ℕ) → List ℕ → Type 0
-AreKeptFromDialect source [] text = text ≡ []
-AreKeptFromDialect source (line ∷ lines) text = IsDialectLine line × AreKeptFromTemplate source lines text
+-- What a template prints of values: a text, or a fault. This version has templates of printf alone.
+abbrev pub Prints : Dialect → List ℕ → List Meaning → Result (List ℕ) RenderFault → Type 0
+Prints Printf template values (Ok text) = PrintsFormat template values text
+Prints Printf template values (Err fault) = (cause : PrintfError) × RefusesFormat template values cause × IsFaultOf cause fault
+Prints Strfmt template values outcome = ⊥
+Prints Formatx template values outcome = ⊥
 
--- The lines from line 2 on keep their rules, as far as they go, and the text is that of their rows.
-abbrev pub AreKeptFromSource : ℕ → List (List ℕ) → List ℕ → Type 0
-AreKeptFromSource kinds [] text = text ≡ []
-AreKeptFromSource kinds (line ∷ lines) text = (source : List FormatElement) × IsSourceLine kinds line source × AreKeptFromDialect source lines text
+-- What the layout's template prints of values of its kinds.
+abbrev pub Renders : Layout → List Datum → Result (List ℕ) RenderFault → Type 0
+Renders layout values outcome = Prints layout.dialect layout.template (meanings_of layout.kinds values) outcome
 
--- The lines keep their rules, as far as they go, and the text is that of their rows.
-abbrev pub AreKept : List (List ℕ) → List ℕ → Type 0
-AreKept [] text = text ≡ []
-AreKept (line ∷ lines) text = (kinds : ℕ) × IsKindsLine line kinds × AreKeptFromSource kinds lines text
+-- The row is rewritten as this line: that which the template prints of the row's values.
+abbrev pub IsRewrittenAs : Layout → List ℕ → List ℕ → Type 0
+IsRewrittenAs layout row line = (values : List Datum) × IsRowOf layout row values × Renders layout values (Ok line)

@@ -1,20 +1,46 @@
 // The commands of the program.
-ghost use Rattle.std.specs.Prelude.{◌≡◌, ◌∷◌, [], ℕ, Result, map, string_bytes, IsTrue, ◌↔◌};
-ghost use Rattle.reformat.specs.Run.{RunsRewrite, Tells, WritesAll, rewrite_words, input_limit};
-ghost use Rattle.reformat.specs.Message.{usage};
-ghost use Rattle.reformat.specs.Status.{result_status};
-ghost use Rattle.reformat.specs.declared.error.ReformatError.{ReformatError};
+ghost use Rattle.std.specs.Prelude.{◌≡◌, map, string_bytes, IsTrue, ◌↔◌};
+ghost use Rattle.line_job.specs.Ends.{Tells, source_seen, sink_seen};
+ghost use Rattle.line_job.specs.Told.{RunsTold};
+ghost use Rattle.reformat.specs.Message.{cause_message, usage};
+ghost use Rattle.reformat.specs.Rules.{rewrite_rules, kinds_next};
+ghost use Rattle.reformat.specs.Reformats.{Reformats, WritesAll};
+ghost use Rattle.reformat.specs.Run.{rewrite_words, input_limit, Completes};
 
-use crate::message::{message_of, tell};
-use crate::{ReformatError, reformat};
+use crate::ReformatError;
+use crate::rewrite::Rewrite;
+use bumpalo::Bump;
 use edge_io::{Sink, Source};
+use line_job::{run_job, run_told, tell};
 use std::alloc::Global;
 
 /// How many bytes of input a command takes at most.
 const LIMIT: u64 = 268435456;
 
+/// How many header lines there are.
+const HEADERS: u64 = 4;
+
 const USAGE: &[u8] =
     b"usage: reformat rewrite | plan | scan FORMAT | translate strfmt|formatx | sample N\n";
+
+/// Rewrites the rows of the input, and answers how many there are. The first four lines say how: kinds, the format
+/// of the rows, a dialect, a template. At most `limit` bytes are taken, and one more to see whether there is one. The
+/// text of a row is written before another read.
+pub fn reformat<S: Source, K: Sink>(
+    alloc: Global,
+    input: &mut S,
+    output: &mut K,
+    limit: u64,
+) -> Result<u64, ReformatError>
+    ensures { Reformats limit (source_seen S.supply input.old input.new) (sink_seen K.held K.faults output.old output.new) result }
+{
+    let texts = Bump::new(alloc);
+    let mut job = Rewrite::new(alloc, &texts);
+    match run_job(alloc, &mut job, input, output, limit) {
+        Ok(lines) => Ok(lines.saturating_sub(HEADERS)),
+        Err(stop) => Err(ReformatError::from(stop)),
+    }
+}
 
 /// Does what the words say, and answers the exit status: 0 for success, 1 for a refused line, 2 where the words are
 /// no command, 3 past the limit, 4 for a read fault, 5 for a write fault, 6 for want of memory.
@@ -27,25 +53,27 @@ pub fn run<S: Source, K: Sink, E: Sink>(
 ) -> u8
     // Status 0 of `rewrite`: all was read, and the rows were written over again.
     ensures rewritten { map string_bytes words.now ≡ rewrite_words → result ≡ 0
-        → WritesAll (S.supply.rest input.old) (S.supply.rest input.new) (K.held output.old) (K.held output.new) }
+        → WritesAll (source_seen S.supply input.old input.new) (sink_seen K.held K.faults output.old output.new) }
 
     // Every status of `rewrite` is that of a result of the job, and its message is told.
     ensures job { map string_bytes words.now ≡ rewrite_words
-        → RunsRewrite S.supply K.held K.faults E.held E.faults input.old input.new output.old output.new errors.old errors.new input_limit result }
+        → RunsTold rewrite_rules kinds_next cause_message input_limit (source_seen S.supply input.old input.new) (sink_seen K.held K.faults output.old output.new) (sink_seen E.held E.faults errors.old errors.new) result }
+
+    // Input that keeps the rules and the limit is rewritten, where no fault was counted and memory was there.
+    ensures complete { map string_bytes words.now ≡ rewrite_words
+        → Completes (source_seen S.supply input.old input.new) (sink_seen K.held K.faults output.old output.new) result }
 
     // Other words are no command: the usage line is told, and nothing is read or written.
     ensures usage { ¬ (map string_bytes words.now ≡ rewrite_words)
-        → (result ≡ 2) × (input.new ≡ input.old) × (output.new ≡ output.old) × Tells (E.held errors.old) (E.held errors.new) (E.faults errors.old) (E.faults errors.new) usage }
+        → (result ≡ 2) × (input.new ≡ input.old) × (output.new ≡ output.old) × Tells (sink_seen E.held E.faults errors.old errors.new) usage }
 
     // Success tells nothing.
     ensures quiet { result ≡ 0 → errors.new ≡ errors.old }
 {
     if is_rewrite(words) {
-        let answer = reformat(alloc, input, output, LIMIT);
-        if let Err(why) = answer {
-            tell(errors, &message_of(why));
-        }
-        status_of(answer)
+        let texts = Bump::new(alloc);
+        let mut job = Rewrite::new(alloc, &texts);
+        run_told(alloc, &mut job, input, output, errors, LIMIT)
     } else {
         tell(errors, USAGE);
         2
@@ -58,18 +86,5 @@ fn is_rewrite(words: &[String]) -> bool
     match words {
         [word] => word.as_str() == "rewrite",
         _ => false,
-    }
-}
-
-fn status_of(answer: Result<u64, ReformatError>) -> u8
-    ensures { result ≡ result_status answer }
-{
-    match answer {
-        Ok(_) => 0,
-        Err(ReformatError::TooLong) => 3,
-        Err(ReformatError::ReadFault) => 4,
-        Err(ReformatError::WriteFault) => 5,
-        Err(ReformatError::NoMemory) => 6,
-        Err(_) => 1,
     }
 }

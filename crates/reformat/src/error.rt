@@ -1,11 +1,13 @@
-// Why a run of the rewriting job ends.
-ghost use Rattle.std.specs.Prelude.{◌≡◌, MatchOption};
-ghost use Rattle.reformat.specs.declared.error.ReformatError.TheVariants.{NoMemory};
+// Why a line is refused, and why a run of the rewriting job ends.
+ghost use Rattle.std.specs.Prelude.{◌≡◌, ◌≤◌, MatchOption, length};
 ghost use Rattle.reformat.specs.declared.error.RenderFault.{RenderFault};
 ghost use Rattle.reformat.specs.Fault.{IsFaultOf};
+ghost use Rattle.reformat.specs.Message.{cause_message, fault_text, MessagesDiffer};
+ghost use Rattle.line_job.specs.declared.stop.Stop.TheVariants.{Line};
+ghost use Rattle.reformat.specs.Error.{error_of};
 
+use line_job::{Cause, Message, Stop, line_message};
 use sprintf::PrintfError;
-use std::alloc::{AllocError, AllocFailed};
 
 /// The dialect in whose grammar a template isn't.
 #[derive(Clone, Copy, Debug, PartialEq, Eq)]
@@ -24,16 +26,70 @@ pub enum RenderFault {
     NotEnoughArgs,
 }
 
+/// Why a line is refused. Lines count from 1.
+#[derive(Clone, Copy, Debug, PartialEq, Eq)]
+pub enum LineCause {
+    /// The header line is missing, or it is a kinds line with a word that names no kind, or a dialect line that isn't one
+    /// dialect word.
+    Header { line: u64 },
+    /// The format line is no printf format.
+    SourceFormat { line: u64 },
+    /// The template isn't in the grammar of its dialect.
+    Template { line: u64, why: TemplateFault },
+    /// No list of values prints to this line.
+    NotARow { line: u64 },
+    /// The line has its list, and the template has no text for it.
+    Render { line: u64, fault: RenderFault },
+    /// The line is of a form that this version doesn't rewrite yet.
+    NotBuilt { line: u64 },
+}
+
+impl Cause for LineCause {
+    ghost message = { cause_message };
+
+    fn message(self) -> Message {
+        match self {
+            LineCause::Header { line } => line_message(line, b"bad header"),
+            LineCause::SourceFormat { line } => line_message(line, b"not a printf format"),
+            LineCause::Template {
+                line,
+                why: TemplateFault::Printf,
+            } => { line_message(line, b"not a printf template") }
+            LineCause::NotARow { line } => line_message(line, b"not a row"),
+            LineCause::Render { line, fault } => line_message(line, fault_text(fault)),
+            LineCause::NotBuilt { line } => line_message(line, b"not built"),
+        }
+    }
+}
+
+// What is wrong where a template has no text for a row's values.
+fn fault_text(fault: RenderFault) -> &'static [u8]
+    ensures text { result.now ≡ fault_text fault }
+    ensures short { length result.now ≤ 80 }
+{
+    match fault {
+        RenderFault::WrongType => b"template fault: WrongType",
+        RenderFault::TooManyArgs => b"template fault: TooManyArgs",
+        RenderFault::NotEnoughArgs => b"template fault: NotEnoughArgs",
+    }
+}
+
+/// Two different refusals never have the same message, so a message that was told whole fixes its refusal.
+pub fn messages_differ()
+    ensures { MessagesDiffer }
+{}
+
 /// Why the rewriting job ended without success. Lines count from 1.
 #[derive(Clone, Copy, Debug, PartialEq, Eq)]
 pub enum ReformatError {
-    /// One of the lines 1 to 4 is missing, line 1 has a word that names no kind, or line 3 isn't one dialect word.
+    /// A header line is missing, or it is the kinds line and has a word that names no kind, or it is the dialect line and
+    /// isn't one dialect word.
     Header { line: u64 },
-    /// Line 2 is no printf format.
-    SourceFormat,
-    /// Line 4 isn't in the grammar of its dialect.
-    Template(TemplateFault),
-    /// No list of numbers prints to this line.
+    /// The format line is no printf format.
+    SourceFormat { line: u64 },
+    /// The template isn't in the grammar of its dialect.
+    Template { line: u64, why: TemplateFault },
+    /// No list of values prints to this line.
     NotARow { line: u64 },
     /// The line has its list, and the template has no text for it.
     Render { line: u64, fault: RenderFault },
@@ -51,19 +107,33 @@ pub enum ReformatError {
     NotBuilt { line: u64 },
 }
 
-impl From<AllocError> for ReformatError {
-    ghost from_gives = { λ _ e. e ≡ NoMemory };
+impl From<LineCause> for ReformatError {
+    ghost from_gives = { λ cause error. error ≡ error_of (Line cause) };
 
-    fn from(_: AllocError) -> Self {
-        ReformatError::NoMemory
+    fn from(cause: LineCause) -> Self {
+        match cause {
+            LineCause::Header { line } => ReformatError::Header { line },
+            LineCause::SourceFormat { line } => ReformatError::SourceFormat { line },
+            LineCause::Template { line, why } => ReformatError::Template { line, why },
+            LineCause::NotARow { line } => ReformatError::NotARow { line },
+            LineCause::Render { line, fault } => ReformatError::Render { line, fault },
+            LineCause::NotBuilt { line } => ReformatError::NotBuilt { line },
+        }
     }
 }
 
-impl<T: Drop> From<AllocFailed<T>> for ReformatError {
-    ghost from_gives = { λ _ e. e ≡ NoMemory };
+impl From<Stop<LineCause>> for ReformatError {
+    ghost from_gives = { λ stop error. error ≡ error_of stop };
 
-    fn from(_: AllocFailed<T>) -> Self {
-        ReformatError::NoMemory
+    fn from(stop: Stop<LineCause>) -> Self {
+        match stop {
+            Stop::Line(cause) => ReformatError::from(cause),
+            Stop::NotUtf8 { line } => ReformatError::NotUtf8 { line },
+            Stop::TooLong => ReformatError::TooLong,
+            Stop::ReadFault => ReformatError::ReadFault,
+            Stop::WriteFault => ReformatError::WriteFault,
+            Stop::NoMemory => ReformatError::NoMemory,
+        }
     }
 }
 

@@ -1,84 +1,123 @@
-// The four header lines, each without its line feed.
-ghost use Rattle.std.specs.Prelude.{◌≡◌, ◌⊎◌, IfOk, IfErr, MatchOption};
+// The header lines, each by the number of its line.
+ghost use Rattle.std.specs.Prelude.{◌≡◌, ◌↔◌, IsTrue, IfOk, IfErr, MatchOption, length};
 ghost use Rattle.sprintf.specs.Grammar.{IsFormat, IsNoFormat};
-ghost use Rattle.reformat.specs.Headers.{IsKindsLine, IsSourceLine, IsDialectLine, IsTemplateLine};
-ghost use Rattle.reformat.specs.Refusal.{RefusesKinds, RefusesSource, RefusesDialect, RefusesTemplate};
+ghost use Rattle.line_job.specs.Refusal.{IfRefused};
+ghost use Rattle.line_job.specs.declared.job.Refusal.TheVariants.{NoMemory};
+ghost use Rattle.reformat.specs.Headers.{IsKindsLine, RefusesKinds, RefusesFormatLine, IsDialectLine, RefusesDialect, RefusesTemplate};
+ghost use Rattle.reformat.specs.Inner.Layout.{AreU64, IsSoundSource, IsSoundTemplate};
 
+use crate::dialect::{Dialect, dialect_of};
 use crate::form::is_in_form;
-use crate::kind::{Dialect, all_name_kinds, count_u64, dialect_of};
-use crate::{ReformatError, TemplateFault};
+use crate::source::{Source, Template};
+use crate::{LineCause, TemplateFault};
+use bumpalo::Bump;
+use line_job::Refusal;
 use sprintf::PrintfError;
 use sprintf::parser::{FormatElement, parse_format_string};
 use std::alloc::Global;
+use values::{Kind, KindsError, parse_kinds};
 
-/// Reads line 1: how many kinds it names.
-pub(crate) fn read_kinds(line: &str) -> Result<usize, ReformatError>
-    ensures ok { IfOk result (IsKindsLine line.now) }
-    ensures err { IfErr result (RefusesKinds line.now) }
+fn all_u64(kinds: &[Kind]) -> bool
+    ensures { IsTrue result ↔ AreU64 kinds.now }
 {
-    if !all_name_kinds(line.as_bytes()) {
-        return Err(ReformatError::Header { line: 1 });
-    }
-    match count_u64(line.as_bytes()) {
-        Some(count) => Ok(count),
-        None => Err(ReformatError::NotBuilt { line: 1 }),
+    kinds.iter().all(|kind| *kind == Kind::U64)
+}
+
+/// Reads a kinds line.
+pub(crate) fn read_kinds(
+    alloc: Global,
+    number: u64,
+    line: &str,
+) -> Result<Vec<Kind>, Refusal<LineCause>>
+    ensures ok { IfOk result (λ kinds. IsKindsLine line.now kinds.items) }
+    ensures refused { IfRefused result (RefusesKinds number line.now) }
+{
+    match parse_kinds(alloc, line) {
+        Ok(kinds) => {
+            if all_u64(&kinds) {
+                Ok(kinds)
+            } else {
+                Err(Refusal::Line(LineCause::NotBuilt { line: number }))
+            }
+        }
+        Err(KindsError::Unknown { .. }) => Err(Refusal::Line(LineCause::Header { line: number })),
+        Err(KindsError::NoMemory) => Err(Refusal::NoMemory),
     }
 }
 
 // The elements of a printf format, where the text is one.
-fn elements_of(alloc: Global, text: &str) -> Result<Option<Vec<FormatElement<'_>>>, ReformatError>
+fn elements_of(
+    alloc: Global,
+    text: &str,
+) -> Result<Option<Vec<FormatElement<'_>>>, Refusal<LineCause>>
     ensures ok { IfOk result (λ found. MatchOption found (IsNoFormat text.now) (λ elements. IsFormat text.now elements.items)) }
-    ensures memory { IfErr result (λ why. why ≡ ReformatError.NoMemory) }
+    ensures memory { IfErr result (λ why. why ≡ NoMemory) }
 {
     match parse_format_string(alloc, text) {
         Ok(elements) => Ok(Some(elements)),
         Err(PrintfError::ParseError) => Ok(None),
-        Err(_) => Err(ReformatError::NoMemory),
+        Err(_) => Err(Refusal::NoMemory),
     }
 }
 
-/// Reads line 2: the elements of the rows' format.
-pub(crate) fn read_source(
+/// Reads a format line for these kinds. The text of the line is kept among the texts.
+pub(crate) fn read_source<'a>(
     alloc: Global,
-    kinds: usize,
+    texts: &'a Bump,
+    number: u64,
+    kinds: Vec<Kind>,
     line: &str,
-) -> Result<Vec<FormatElement<'_>>, ReformatError>
-    ensures ok { IfOk result (λ source. IsSourceLine kinds line.now source.items) }
-    ensures err { IfErr result (λ why. RefusesSource kinds line.now why ⊎ (why ≡ ReformatError.NoMemory)) }
+) -> Result<Source<'a>, Refusal<LineCause>>
+    requires { AreU64 kinds.items }
+    ensures kinds { IfOk result (λ source. source.kinds.items ≡ kinds.items) }
+    ensures text { IfOk result (λ source. source.text.now ≡ line.now) }
+    ensures sound { IfOk result IsSoundSource }
+    ensures refused { IfRefused result (RefusesFormatLine number (length kinds.items) line.now) }
 {
-    let Some(source) = elements_of(alloc, line)? else {
-        return Err(ReformatError::SourceFormat);
+    let text = texts.try_alloc_str(line)?;
+    let Some(elements) = elements_of(alloc, text)? else {
+        return Err(Refusal::Line(LineCause::SourceFormat { line: number }));
     };
-    if is_in_form(kinds, &source) {
-        Ok(source)
-    } else {
-        Err(ReformatError::NotBuilt { line: 2 })
+    if !is_in_form(kinds.len(), &elements) {
+        return Err(Refusal::Line(LineCause::NotBuilt { line: number }));
     }
+    Ok(Source {
+        kinds,
+        text,
+        elements,
+    })
 }
 
-/// Reads line 3, which names the dialect of the template.
-pub(crate) fn read_dialect(line: &str) -> Result<(), ReformatError>
-    ensures ok { IfOk result (λ _. IsDialectLine line.now) }
-    ensures err { IfErr result (RefusesDialect line.now) }
+/// Reads a dialect line.
+pub(crate) fn read_dialect(number: u64, line: &str) -> Result<(), Refusal<LineCause>>
+    ensures ok { IfOk result (λ _. IsDialectLine line.now Dialect.Printf) }
+    ensures refused { IfRefused result (RefusesDialect number line.now) }
 {
-    match dialect_of(line.as_bytes()) {
+    match dialect_of(line) {
         Some(Dialect::Printf) => Ok(()),
-        Some(Dialect::Strfmt) => Err(ReformatError::NotBuilt { line: 3 }),
-        Some(Dialect::Formatx) => Err(ReformatError::NotBuilt { line: 3 }),
-        None => Err(ReformatError::Header { line: 3 }),
+        Some(Dialect::Strfmt) => Err(Refusal::Line(LineCause::NotBuilt { line: number })),
+        Some(Dialect::Formatx) => Err(Refusal::Line(LineCause::NotBuilt { line: number })),
+        None => Err(Refusal::Line(LineCause::Header { line: number })),
     }
 }
 
-/// Reads line 4: the elements of the template.
-pub(crate) fn read_template(
+/// Reads a template line of the dialect printf. The text of the line is kept among the texts.
+pub(crate) fn read_template<'a>(
     alloc: Global,
+    texts: &'a Bump,
+    number: u64,
     line: &str,
-) -> Result<Vec<FormatElement<'_>>, ReformatError>
-    ensures ok { IfOk result (λ template. IsTemplateLine line.now template.items) }
-    ensures err { IfErr result (λ why. RefusesTemplate line.now why ⊎ (why ≡ ReformatError.NoMemory)) }
+) -> Result<Template<'a>, Refusal<LineCause>>
+    ensures text { IfOk result (λ template. template.text.now ≡ line.now) }
+    ensures sound { IfOk result IsSoundTemplate }
+    ensures refused { IfRefused result (RefusesTemplate number Dialect.Printf line.now) }
 {
-    match elements_of(alloc, line)? {
-        Some(template) => Ok(template),
-        None => Err(ReformatError::Template(TemplateFault::Printf)),
+    let text = texts.try_alloc_str(line)?;
+    match elements_of(alloc, text)? {
+        Some(elements) => Ok(Template { text, elements }),
+        None => Err(Refusal::Line(LineCause::Template {
+            line: number,
+            why: TemplateFault::Printf,
+        })),
     }
 }

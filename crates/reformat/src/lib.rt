@@ -1,19 +1,14 @@
 //! Rewrites lines from one format into another, from bytes to bytes.
 #![tactic(auto)]
 
-mod batch;
 mod command;
-mod engine;
+mod dialect;
 mod error;
 mod form;
 mod headers;
-mod kind;
-mod message;
-mod reading;
+mod rewrite;
 mod row;
-mod words;
+mod source;
 
-pub use command::run;
-pub use engine::reformat;
-pub use error::{ReformatError, RenderFault, TemplateFault};
-pub use message::messages_differ;
+pub use command::{reformat, run};
+pub use error::{LineCause, ReformatError, RenderFault, TemplateFault, messages_differ};

@@ -1,17 +1,23 @@
 // Rows read and printed.
-ghost use Rattle.std.specs.Prelude.{◌≡◌, ◌⊎◌, ◌<◌, ◌^◌, ◌++◌, ◌∷◌, [], ℕ, List, IfOk, IfErr, IfSome, IfNone, IsTrue, ◌↔◌, ◌≢◌, false, string_bytes, OnOk, length, slice_index};
+ghost use Rattle.std.specs.Prelude.{◌≡◌, ◌⊎◌, ◌<◌, ◌^◌, ◌++◌, ◌∷◌, [], ℕ, List, IfOk, IfErr, IfSome, IfNone, IsTrue, ◌↔◌, ◌≢◌, false, string_bytes, take, IsCharBoundary, OnOk, OnErr, length, slice_index};
 ghost use Rattle.std.specs.Fmt.{decimal};
 ghost use Rattle.reformat.specs.declared.error.RenderFault.{RenderFault};
-ghost use Rattle.reformat.specs.Fault.{IsFaultOf, IsToldFault};
-ghost use Rattle.reformat.specs.Format.{BeginsApart, IsRow, IsSeparated};
+ghost use Rattle.reformat.specs.declared.error.LineCause.TheVariants.{Render};
+ghost use Rattle.line_job.specs.Refusal.{IfRefused};
+ghost use Rattle.reformat.specs.Fault.{IsFaultOf};
+ghost use Rattle.reformat.specs.Format.{BeginsApart, IsSeparated};
 ghost use Rattle.reformat.specs.Rewrite.{IsRewrittenAs};
-ghost use Rattle.reformat.specs.Refusal.{RefusesRow};
-ghost use Rattle.reformat.specs.Digits.{ReadsDigits};
-ghost use Rattle.reformat.specs.ElementRead.{ReadsElement, AppendsRow};
+ghost use Rattle.reformat.specs.Rules.{RefusesRow};
+ghost use Rattle.reformat.specs.Inner.Digits.{ReadsDigits};
+ghost use Rattle.reformat.specs.Inner.Numbers.{IsNumberRow, IsToldFault};
+ghost use Rattle.reformat.specs.Inner.ElementRead.{ReadsElement};
+ghost use Rattle.reformat.specs.Inner.Layout.{layout_of, IsSoundSource, IsSoundTemplate};
 
-use crate::ReformatError;
+use crate::LineCause;
 use crate::error::fault_of;
 use crate::form::is_percent;
+use crate::source::{Source, Template};
+use line_job::Refusal;
 use sprintf::parser::FormatElement;
 use sprintf::{PrintfError, vsprintfp_into};
 use std::alloc::{AllocError, Global};
@@ -102,8 +108,8 @@ fn read_row(
     numbers: &mut Vec<u64>,
 ) -> Result<bool, AllocError>
     requires { IsSeparated elements.now }
-    ensures row { IfOk result (λ found. IsTrue found → IsRow elements.now line.now numbers.new.items) }
-    ensures none { IfOk result (λ found. found ≡ false → (others : List ℕ) → ¬ IsRow elements.now line.now others) }
+    ensures row { IfOk result (λ found. IsTrue found → IsNumberRow elements.now line.now numbers.new.items) }
+    ensures none { IfOk result (λ found. found ≡ false → (others : List ℕ) → ¬ IsNumberRow elements.now line.now others) }
 {
     numbers.clear();
     let mut rest = line;
@@ -117,61 +123,58 @@ fn read_row(
 }
 
 /// The refusal of a line whose numbers the template refuses, or want of memory.
-fn refusal_of(cause: &PrintfError, number: u64) -> ReformatError
+fn refusal_of(cause: &PrintfError, number: u64) -> Refusal<LineCause>
     requires { IsToldFault cause.now ⊎ (cause.now ≡ PrintfError.NoMemory) }
-    ensures { ((fault : RenderFault) × IsFaultOf cause.now fault × (result ≡ ReformatError.Render number fault)) ⊎ ((cause.now ≡ PrintfError.NoMemory) × (result ≡ ReformatError.NoMemory)) }
+    ensures { ((fault : RenderFault) × IsFaultOf cause.now fault × (result ≡ Refusal.Line (Render number fault))) ⊎ ((cause.now ≡ PrintfError.NoMemory) × (result ≡ Refusal.NoMemory)) }
 {
     match fault_of(cause) {
-        Some(fault) => ReformatError::Render {
+        Some(fault) => Refusal::Line(LineCause::Render {
             line: number,
             fault,
-        },
-        None => ReformatError::NoMemory,
+        }),
+        None => Refusal::NoMemory,
     }
 }
 
-/// Room that is used again from row to row: for the numbers of a row, and for the text that the template prints of them.
-#[derive(Drop)]
-pub(crate) struct Room {
-    numbers: Vec<u64>,
-    line: String,
-}
-
-impl Room {
-    /// Nothing is kept yet. It takes no memory.
-    pub(crate) fn new(alloc: Global) -> Room {
-        Room {
-            numbers: Vec::new(alloc),
-            line: String::new(alloc),
+// Puts a line feed at the end, or cuts the text to the bytes before.
+fn end_line(out: &mut String, before: usize) -> Result<(), Refusal<LineCause>>
+    requires { IsCharBoundary (string_bytes out.old) before }
+    ensures ok { OnOk result (string_bytes out.new ≡ string_bytes out.old ++ 10 ∷ []) }
+    ensures cut { OnErr result (string_bytes out.new ≡ take before (string_bytes out.old)) }
+    ensures memory { IfErr result (λ why. why ≡ Refusal.NoMemory) }
+{
+    match out.push_str("\n") {
+        Ok(()) => Ok(()),
+        Err(_) => {
+            out.truncate(before);
+            Err(Refusal::NoMemory)
         }
     }
 }
 
-/// Puts the line that the row is rewritten as, and a line feed, after the batch. The row stands on the line of this
+/// Puts the line that the row is rewritten as, and a line feed, at the end of `out`. The row stands on the line of this
 /// number.
 pub(crate) fn rewrite_row(
     alloc: Global,
-    source: &[FormatElement<'_>],
-    template: &[FormatElement<'_>],
+    source: &Source<'_>,
+    template: &Template<'_>,
     number: u64,
     row: &str,
-    room: &mut Room,
-    batch: &mut Vec<u8>,
-) -> Result<(), ReformatError>
-    requires { IsSeparated source.now }
-    ensures ok { OnOk result (AppendsRow source.now template.now row.now batch.old.items batch.new.items) }
-    ensures err { IfErr result (λ why. (RefusesRow source.now template.now number row.now why × (batch.new.items ≡ batch.old.items)) ⊎ (why ≡ ReformatError.NoMemory)) }
+    numbers: &mut Vec<u64>,
+    out: &mut String,
+) -> Result<(), Refusal<LineCause>>
+    requires source { IsSoundSource source.now }
+    requires template { IsSoundTemplate template.now }
+    ensures kept { OnOk result ((line : List ℕ) × IsRewrittenAs (layout_of source.now template.now) row.now line × (string_bytes out.new ≡ string_bytes out.old ++ (line ++ 10 ∷ []))) }
+    ensures refused { IfRefused result (RefusesRow (layout_of source.now template.now) number row.now) }
+    ensures as_before { OnErr result (string_bytes out.new ≡ string_bytes out.old) }
 {
-    if !read_row(source, row.as_bytes(), &mut room.numbers)? {
-        return Err(ReformatError::NotARow { line: number });
+    if !read_row(&source.elements, row.as_bytes(), numbers)? {
+        return Err(Refusal::Line(LineCause::NotARow { line: number }));
     }
-    room.line.clear();
-    match vsprintfp_into(alloc, &mut room.line, template, &room.numbers) {
-        Ok(()) => {
-            batch.extend_from_slice(room.line.as_bytes())?;
-            batch.push(b'\n')?;
-            Ok(())
-        }
+    let before = out.len();
+    match vsprintfp_into(alloc, out, &template.elements, numbers) {
+        Ok(()) => end_line(out, before),
         Err(cause) => Err(refusal_of(&cause, number)),
     }
 }

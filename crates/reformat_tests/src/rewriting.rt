@@ -1,7 +1,7 @@
 // What is written and told for an input, with its words, status, output and message; `^` stands for a line feed.
 use crate::support::{run_table, sink, source};
 use edge_io::MemSink;
-use reformat::run;
+use reformat::{ReformatError, TemplateFault, reformat, run};
 use std::test::Fail;
 
 const ROWS: &str = "\
@@ -23,6 +23,7 @@ const HEADER_LINES: &str = "\
 rewrite;;1;;line 1: bad header^
 rewrite;u8^%d^printf^%d^7^;1;;line 1: not built^
 rewrite;u64 u128^%d^printf^%d^;1;;line 1: bad header^
+rewrite;u64 char^%d%c^printf^%d^;1;;line 1: not built^
 rewrite;u64^;1;;line 2: bad header^
 rewrite;u64;1;;line 2: bad header^
 rewrite;u64^%5d^printf^%d^;1;;line 2: not built^
@@ -68,6 +69,20 @@ fn prints_by_any_template(rt: HostRuntime) -> Result<(), Fail> {
 #[test]
 fn knows_its_commands(rt: HostRuntime) -> Result<(), Fail> {
     run_table(&rt, rt.alloc(), NO_COMMANDS)
+}
+
+#[test]
+fn carries_the_line_of_a_refusal(rt: HostRuntime) -> Result<(), Fail> {
+    let alloc = rt.alloc();
+    let mut output = sink(alloc, 1)?;
+    let mut input = source(alloc, b"u64\n%y\n", 4096)?;
+    let got = reformat(alloc, &mut input, &mut output, 100);
+    assert_eq!(rt; got, Err(ReformatError::SourceFormat { line: 2 }));
+    let mut input = source(alloc, b"u64\n%d\nprintf\n%\n", 4096)?;
+    let got = reformat(alloc, &mut input, &mut output, 100);
+    let why = TemplateFault::Printf;
+    assert_eq!(rt; got, Err(ReformatError::Template { line: 4, why }));
+    Ok(())
 }
 
 // A fault of the error output in the middle of a message leaves a front of it, and the status stays.

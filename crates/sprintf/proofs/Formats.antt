@@ -8,7 +8,7 @@ use Rattle.sprintf.specs.declared.parser.ConversionSpecifier.{ConversionSpecifie
 use Rattle.sprintf.specs.declared.parser.FormatElement.{FormatElement}
 use Rattle.sprintf.specs.declared.parser.FormatElement.TheVariants.{Verbatim, Format}
 use Rattle.sprintf.specs.Grammar.{IsField, Spells, AreApart, IsFormat, IsNoFormat}
-use Rattle.sprintf.specs.Reading.{read_field, verbatim}
+use Rattle.sprintf.specs.Inner.Reading.{read_field, verbatim}
 use Rattle.sprintf.proofs.Complete.{read_field-is, body_of}
 use Rattle.sprintf.proofs.Sound.{field_sound, some_parts}
 

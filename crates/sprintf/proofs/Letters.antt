@@ -7,7 +7,7 @@ use Rattle.sprintf.specs.Grammar.{has, letters_of}
 use Rattle.std.proofs.lemmas.Str.{char_from_byte, encode_ascii}
 use Rattle.std.proofs.lemmas.Bool.{cases_lt}
 use Rattle.sprintf.specs.declared.parser.NumericParam.{NumericParam}
-use Rattle.sprintf.specs.Reading.{conversion_among, conversion_of, all_conversions, read_letter, field_with}
+use Rattle.sprintf.specs.Inner.Reading.{conversion_among, conversion_of, all_conversions, read_letter, field_with}
 
 -- no letter is above ASCII
 has-high : (c : ℕ) (t : ConversionType) → 128 ≤ c → has (letters_of t) c ≡ false

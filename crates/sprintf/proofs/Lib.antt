@@ -7,3 +7,4 @@ pub mod Formats
 pub mod Cut
 pub mod Uniqueness
 pub mod Filled
+pub mod ValueFaults

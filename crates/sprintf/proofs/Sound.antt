@@ -11,7 +11,7 @@ use Rattle.sprintf.specs.declared.parser.ConversionType.{ConversionType}
 use Rattle.sprintf.specs.declared.parser.NumericParam.{NumericParam}
 use Rattle.sprintf.specs.declared.parser.NumericParam.TheVariants.{Literal, FromArgument}
 use Rattle.sprintf.specs.Grammar.{has, is_flag, IsCount, IsWidth, IsPrecision, no_width, star_width, digits_width, no_precision, bare_precision, star_precision, digits_precision, length_modifiers, letters_of, IsField}
-use Rattle.sprintf.specs.Reading.{read_field, read_param, read_precision, read_count, written, read_letter, read_as, then_read, skip_one, behind, conversion_of, conversion_among, all_conversions, precision_or_default, field_with}
+use Rattle.sprintf.specs.Inner.Reading.{read_field, read_param, read_precision, read_count, written, read_letter, read_as, then_read, skip_one, behind, conversion_of, conversion_among, all_conversions, precision_or_default, field_with}
 use Rattle.sprintf.proofs.Digits.{all_below}
 use Rattle.sprintf.proofs.Runs.{prefix_len-take}
 

@@ -1,5 +1,5 @@
 -- A text has one list of elements, so one value.
-use Rattle.std.proofs.Common.{◌≡◌, ℕ, ◌<◌, List, [], ◌∷◌, ◌++◌, length, refl, sym, ap, ◌∙◌, subst, arith, Bor, Result, Ok, Err, length-append}
+use Rattle.std.proofs.Common.{drop, ◌≡◌, ℕ, ◌<◌, List, [], ◌∷◌, ◌++◌, length, refl, sym, ap, ◌∙◌, subst, arith, Bor, Result, Ok, Err, length-append}
 use Rattle.std.specs.List.{AllZip}
 use Rattle.std.proofs.lemmas.List.{append-nil}
 use Rattle.sprintf.specs.declared.PrintfError.{PrintfError}
@@ -7,10 +7,10 @@ use Rattle.sprintf.specs.declared.parser.ConversionSpecifier.{ConversionSpecifie
 use Rattle.sprintf.specs.declared.parser.FormatElement.{FormatElement}
 use Rattle.sprintf.specs.declared.parser.FormatElement.TheVariants.{Verbatim, Format}
 use Rattle.sprintf.specs.Grammar.{IsField, AreApart, IsSameElement}
-use Rattle.sprintf.specs.Reading.{read_field}
+use Rattle.sprintf.specs.Inner.Reading.{read_field}
 use Rattle.sprintf.specs.Laws.{HasOneElementList, HasOneValue}
 use Rattle.sprintf.specs.Meaning.{Meaning}
-use Rattle.sprintf.specs.Printed.{printed, take_field, then_by, onto, Taken}
+use Rattle.sprintf.specs.Printed.{then_with, field_text, wanted, onto, printed}
 use Rattle.sprintf.proofs.Complete.{read_field-is, body_of}
 use Rattle.sprintf.proofs.Sound.{some_parts}
 use Rattle.sprintf.proofs.Formats.{Spelled, spelled_of, IsPlain, not_plain, split_same, plain_of}
@@ -87,9 +87,9 @@ agree (Verbatim v ∷ Verbatim u ∷ a) (Verbatim w ∷ b) text s t p q = absurd
 pub one_element_list : HasOneElementList
 one_element_list text a b s t = agree a b text (spelled_of a text s) (spelled_of b text t) s.apart t.apart
 
-by_taken : (taken : Taken (List ℕ)) (a b : List FormatElement) → ((values : List Meaning) → printed a values ≡ printed b values) → then_by taken (λ text values. onto text (printed a values)) ≡ then_by taken (λ text values. onto text (printed b values))
-by_taken (Ok r) a b h = ap (λ (p : Result (List ℕ) PrintfError). onto r.0 p) (h r.1)
-by_taken (Err e) a b h = refl
+by_text : (field : Result (List ℕ) PrintfError) (left right : Result (List ℕ) PrintfError) → left ≡ right → then_with field (λ text. onto text left) ≡ then_with field (λ text. onto text right)
+by_text (Ok text) left right h = ap (λ (p : Result (List ℕ) PrintfError). onto text p) h
+by_text (Err e) left right h = refl
 
 same_value : (a b : List FormatElement) → AllZip IsSameElement a b → (values : List Meaning) → printed a values ≡ printed b values
 same_value [] [] z values = refl
@@ -99,8 +99,8 @@ same_value (Verbatim v ∷ a) (Verbatim w ∷ b) z values = ap (λ (t : List ℕ
 same_value (Verbatim v ∷ a) (Format g ∷ b) z values = absurd z.0
 same_value (Format f ∷ a) (Verbatim w ∷ b) z values = absurd z.0
 same_value (Format f ∷ a) (Format g ∷ b) z values =
-    ap (λ (h : ConversionSpecifier). then_by (take_field h values) (λ text rest. onto text (printed a rest))) z.0
-    ∙ by_taken (take_field g values) a b (λ rest. same_value a b z.1 rest)
+    ap (λ (h : ConversionSpecifier). then_with (field_text h values) (λ text. onto text (printed a (drop (wanted h) values)))) z.0
+    ∙ by_text (field_text g values) (printed a (drop (wanted g) values)) (printed b (drop (wanted g) values)) (same_value a b z.1 (drop (wanted g) values))
 
 pub one_value : HasOneValue
 one_value text a b values s t = same_value a b (one_element_list text a b s t) values

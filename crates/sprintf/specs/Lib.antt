@@ -3,5 +3,5 @@ pub mod Field
 pub mod Meaning
 pub mod Carried
 pub mod Printed
-pub mod Reading
+pub mod Inner
 pub mod Laws

@@ -1,5 +1,5 @@
 -- What a list of elements prints over a list of values: a text, or the first fault from the left.
-use Rattle.std.specs.Prelude.{◌≡◌, ◌⊎◌, ℕ, ℤ, List, [], ◌∷◌, ◌++◌, codes, Option, Some, None, Result, Ok, Err}
+use Rattle.std.specs.Prelude.{◌≡◌, ◌⊎◌, ℕ, ◌+◌, ℤ, List, [], ◌∷◌, ◌++◌, drop, codes, Option, Some, None, Result, Ok, Err}
 use Rattle.sprintf.specs.declared.PrintfError.{PrintfError}
 use Rattle.sprintf.specs.declared.PrintfError.TheVariants.{ParseError, WrongType, TooManyArgs, NotEnoughArgs}
 use Rattle.sprintf.specs.declared.parser.ConversionSpecifier.{ConversionSpecifier}
@@ -12,43 +12,50 @@ use Rattle.sprintf.specs.declared.parser.NumericParam.TheVariants.{Literal, From
 use Rattle.sprintf.specs.Grammar.{IsFormat, IsNoFormat}
 use Rattle.sprintf.specs.Meaning.{Meaning}
 
--- an answer and the values that are left, or a fault
-abbrev pub Taken : Type 0 → Type 0
-Taken A = Result (A × List Meaning) PrintfError
+-- how many values a width or a precision takes: one for `*`
+abbrev pub stars : NumericParam → ℕ
+stars (Literal z) = 0
+stars FromArgument = 1
+
+-- how many values a field takes: none for `%%`, else one, and one for each `*`
+abbrev pub wanted_by : ConversionType → ConversionSpecifier → ℕ
+wanted_by PercentSign f = 0
+wanted_by _ f = stars f.width + stars f.precision + 1
+
+abbrev pub wanted : ConversionSpecifier → ℕ
+wanted f = wanted_by f.conversion_type f
 
 -- what comes after an answer; a fault stays
-abbrev pub then_by : {A B : Type 0} → Taken A → (A → List Meaning → Result B PrintfError) → Result B PrintfError
-then_by (Ok r) next = next r.0 r.1
-then_by (Err e) next = Err e
+abbrev pub then_with : {A B : Type 0} → Result A PrintfError → (A → Result B PrintfError) → Result B PrintfError
+then_with (Ok answer) next = next answer
+then_with (Err e) next = Err e
 
 -- the number that a value gives to a `*`
-abbrev pub star_number : Option ℤ → List Meaning → Taken NumericParam
-star_number (Some z) values = Ok (Literal z, values)
-star_number None values = Err WrongType
+abbrev pub star_number : Option ℤ → Result NumericParam PrintfError
+star_number (Some z) = Ok (Literal z)
+star_number None = Err WrongType
 
--- a width or precision as a number, by the next value where it is `*`
-abbrev pub take_param : NumericParam → List Meaning → Taken NumericParam
-take_param (Literal z) values = Ok (Literal z, values)
-take_param FromArgument [] = Err NotEnoughArgs
-take_param FromArgument (v ∷ values) = star_number v.int values
+-- a width or a precision as a number: where it is `*`, that of the first of these values
+abbrev pub param_of : NumericParam → List Meaning → Result NumericParam PrintfError
+param_of (Literal z) values = Ok (Literal z)
+param_of FromArgument [] = Err NotEnoughArgs
+param_of FromArgument (v ∷ values) = star_number v.int
 
--- a text and the values that are left
-abbrev pub text_with : Result (List ℕ) PrintfError → List Meaning → Taken (List ℕ)
-text_with (Ok text) values = Ok (text, values)
-text_with (Err e) values = Err e
+-- the text of the first of these values
+abbrev pub value_text : ConversionSpecifier → List Meaning → Result (List ℕ) PrintfError
+value_text f [] = Err NotEnoughArgs
+value_text f (v ∷ values) = v.text f
 
--- the next value's text
-abbrev pub take_text : ConversionSpecifier → List Meaning → Taken (List ℕ)
-take_text f [] = Err NotEnoughArgs
-take_text f (v ∷ values) = text_with (v.text f) values
+-- the text of a field over these values: `%`, or the width if it is `*`, then the precision if it is `*`, then the value
+abbrev pub field_by : ConversionType → ConversionSpecifier → List Meaning → Result (List ℕ) PrintfError
+field_by PercentSign f values = Ok (codes "%")
+field_by _ f values =
+    then_with (param_of f.width values) (λ width.
+    then_with (param_of f.precision (drop (stars f.width) values)) (λ precision.
+    value_text (record f { width = width; precision = precision }) (drop (stars f.precision) (drop (stars f.width) values))))
 
--- the text of a field: `%`, or the width if it is `*`, then the precision if it is `*`, then the value
-abbrev pub take_field_by : ConversionType → ConversionSpecifier → List Meaning → Taken (List ℕ)
-take_field_by PercentSign f values = Ok (codes "%", values)
-take_field_by _ f values = then_by (take_param f.width values) (λ width values. then_by (take_param f.precision values) (λ precision values. take_text (record f { width = width; precision = precision }) values))
-
-abbrev pub take_field : ConversionSpecifier → List Meaning → Taken (List ℕ)
-take_field f values = take_field_by f.conversion_type f values
+abbrev pub field_text : ConversionSpecifier → List Meaning → Result (List ℕ) PrintfError
+field_text f values = field_by f.conversion_type f values
 
 -- a text in front of another, unless that one is a fault
 abbrev pub onto : List ℕ → Result (List ℕ) PrintfError → Result (List ℕ) PrintfError
@@ -60,7 +67,7 @@ abbrev pub printed : List FormatElement → List Meaning → Result (List ℕ) P
 printed [] [] = Ok []
 printed [] (v ∷ values) = Err TooManyArgs
 printed (Verbatim s ∷ es) values = onto s.now (printed es values)
-printed (Format f ∷ es) values = then_by (take_field f values) (λ text values. onto text (printed es values))
+printed (Format f ∷ es) values = then_with (field_text f values) (λ text. onto text (printed es (drop (wanted f) values)))
 
 -- the text is a format, and this is what its elements print
 abbrev pub PrintsFormat : List ℕ → List Meaning → List ℕ → Type 0

@@ -1,5 +1,5 @@
 // The text of one field, appended to a text. After a refusal that text is as before.
-ghost use Rattle.std.specs.Prelude.{◌≡◌, ◌+◌, ◌-◌, ℕ, [], length, string_bytes, if◌then◌else◌, Ok, Err};
+ghost use Rattle.std.specs.Prelude.{◌≡◌, ◌+◌, ◌-◌, ℕ, false, [], length, string_bytes, if◌then◌else◌, Ok, Err};
 ghost use Rattle.numerals.specs.Answer.{AppendsAnswer};
 ghost use Rattle.numerals.specs.Numeral.{base_of, numeral};
 ghost use Rattle.padding.specs.Field.{field_text};
@@ -8,7 +8,8 @@ ghost use Rattle.sprintf.specs.Meaning.{by_conversion};
 ghost use Rattle.sprintf.specs.Carried.{u8_meaning, unsigned_meaning, code_meaning, i8_meaning, char_meaning, word_meaning};
 
 use crate::{ConversionSpecifier, ConversionType, NumericParam, PrintfError, Result};
-use numerals::{Radix, digits_of};
+use itoa::Buffer;
+use numerals::{Radix, digits_of, numeral_is_std};
 use padding::Field;
 
 /// A number's field: `-` fills behind, else `0` fills with zeros, else spaces fill in front.
@@ -123,10 +124,32 @@ fn append_number(spec: &ConversionSpecifier, lead: &str, value: u64, out: &mut S
     ensures { AppendsAnswer PrintfError.NoMemory (number_text spec.now lead.now value) (string_bytes out.old) (string_bytes out.new) result }
 {
     let width = number_of(spec.width).ok_or(PrintfError::Unknown)?;
-    let (radix, upper) = radix_of(spec.conversion_type);
-    let mut buffer = [0; 128];
-    let digits = digits_of(u128::from(value), radix, upper, &mut buffer);
-    append_filled(spec, width, lead, digits, out)
+    match spec.conversion_type {
+        ConversionType::OctInt | ConversionType::HexIntLower | ConversionType::HexIntUpper => {
+            let (radix, upper) = radix_of(spec.conversion_type);
+            let mut buffer = [0; 128];
+            let digits = digits_of(u128::from(value), radix, upper, &mut buffer);
+            append_filled(spec, width, lead, digits, out)
+        }
+        _ => append_decimal(spec, width, lead, value, out),
+    }
+}
+
+/// The same in decimal.
+#[inline]
+fn append_decimal(
+    spec: &ConversionSpecifier,
+    width: usize,
+    lead: &str,
+    value: u64,
+    out: &mut String,
+) -> Result<()>
+    ensures { let digits = numeral 10 false value in let text = filled_number spec.now (width - (length lead.now + length digits)) lead.now digits in AppendsAnswer PrintfError.NoMemory (Ok text) (string_bytes out.old) (string_bytes out.new) result }
+{
+    // The numeral in base ten is what std writes, and so does `itoa`.
+    numeral_is_std();
+    let mut buffer = Buffer::new();
+    append_filled(spec, width, lead, buffer.format(value), out)
 }
 
 /// A number's parts, filled to the width.

@@ -1,10 +1,10 @@
 //! Formats of `printf`, parsed and printed over values.
 #![tactic(auto)]
 
-ghost use Rattle.std.specs.Prelude.{◌≡◌, ◌⊎◌, ◌++◌, ℕ, List, map, string_bytes, IfOk, IfErr, OnOk, OnErr, Ok, Err};
+ghost use Rattle.std.specs.Prelude.{◌≡◌, ◌⊎◌, ◌++◌, ℕ, List, map, drop, string_bytes, IfOk, IfErr, OnOk, Ok, Err};
 ghost use Rattle.numerals.specs.Answer.{IsAnswer, AppendsAnswer};
-ghost use Rattle.sprintf.specs.Printed.{printed, take_param, take_text, take_field, PrintsFormat, RefusesFormat};
-ghost use Rattle.sprintf.specs.Reading.{Prints, Starts};
+ghost use Rattle.sprintf.specs.Printed.{printed, param_of, stars, value_text, field_text, wanted, PrintsFormat, RefusesFormat};
+ghost use Rattle.sprintf.specs.Inner.Reading.{Starts};
 
 mod arg;
 mod field;
@@ -14,7 +14,9 @@ pub mod parser;
 
 pub use arg::Arg;
 pub use format::Printf;
-pub use laws::{fills_its_width, one_element_list, one_value};
+pub use laws::{
+    carried_refuse_types, fills_its_width, one_element_list, one_value, takes_faults_from_values,
+};
 pub use parser::{ConversionSpecifier, ConversionType, NumericParam};
 use parser::{FormatElement, parse_format_string};
 use std::alloc::{AllocError, Global};
@@ -144,9 +146,8 @@ fn print_field<'p, P: Printf>(
     spec: &ConversionSpecifier,
     args: &'p [P],
 ) -> Result<&'p [P]>
-    ensures ok { IfOk result (λ rest. Prints (take_field spec.now (map P.meaning args.entry.now)) (string_bytes out.old) (string_bytes out.new) (map P.meaning rest.now)) }
-    ensures err { IfErr result (λ e. (take_field spec.now (map P.meaning args.entry.now) ≡ Err e) ⊎ (e ≡ PrintfError.NoMemory)) }
-    ensures kept { OnErr result (string_bytes out.new ≡ string_bytes out.old) }
+    ensures text { AppendsAnswer PrintfError.NoMemory (field_text spec.now (map P.meaning args.entry.now)) (string_bytes out.old) (string_bytes out.new) result }
+    ensures left { IfOk result (λ left. map P.meaning left.now ≡ drop (wanted spec.now) (map P.meaning args.entry.now)) }
 {
     if let ConversionType::PercentSign = spec.conversion_type {
         out.push_str("%")?;
@@ -164,15 +165,16 @@ fn print_field<'p, P: Printf>(
 
 /// A width or a precision as a number, and the arguments that are left.
 fn take_param<P: Printf>(param: NumericParam, args: &[P]) -> Result<(NumericParam, &[P])>
-    ensures ok { IfOk result (λ r. take_param param (map P.meaning args.now) ≡ Ok (r.0, map P.meaning r.1.now)) }
-    ensures err { IfErr result (λ e. take_param param (map P.meaning args.now) ≡ Err e) }
+    ensures ok { IfOk result (λ r. param_of param (map P.meaning args.now) ≡ Ok r.0) }
+    ensures left { IfOk result (λ r. map P.meaning r.1.now ≡ drop (stars param) (map P.meaning args.now)) }
+    ensures err { IfErr result (λ e. param_of param (map P.meaning args.now) ≡ Err e) }
 {
     let NumericParam::FromArgument = param else {
         return Ok((param, args));
     };
-    let (first, rest) = args.split_first().ok_or(PrintfError::NotEnoughArgs)?;
-    let number = first.as_int().ok_or(PrintfError::WrongType)?;
-    Ok((NumericParam::Literal(number), rest))
+    let (value, left) = args.split_first().ok_or(PrintfError::NotEnoughArgs)?;
+    let number = value.as_int().ok_or(PrintfError::WrongType)?;
+    Ok((NumericParam::Literal(number), left))
 }
 
 /// Appends the next argument under a specification without `*`, and gives the arguments that are left.
@@ -182,13 +184,12 @@ fn print_value<'p, P: Printf>(
     spec: &ConversionSpecifier,
     args: &'p [P],
 ) -> Result<&'p [P]>
-    ensures ok { IfOk result (λ rest. Prints (take_text spec.now (map P.meaning args.entry.now)) (string_bytes out.old) (string_bytes out.new) (map P.meaning rest.now)) }
-    ensures err { IfErr result (λ e. (take_text spec.now (map P.meaning args.entry.now) ≡ Err e) ⊎ (e ≡ PrintfError.NoMemory)) }
-    ensures kept { OnErr result (string_bytes out.new ≡ string_bytes out.old) }
+    ensures text { AppendsAnswer PrintfError.NoMemory (value_text spec.now (map P.meaning args.entry.now)) (string_bytes out.old) (string_bytes out.new) result }
+    ensures left { IfOk result (λ left. map P.meaning left.now ≡ drop 1 (map P.meaning args.entry.now)) }
 {
-    let (first, rest) = args.split_first().ok_or(PrintfError::NotEnoughArgs)?;
+    let (first, left) = args.split_first().ok_or(PrintfError::NotEnoughArgs)?;
     first.format_into(alloc, spec, out)?;
-    Ok(rest)
+    Ok(left)
 }
 
 /// Prints the arguments by the format: `sprintf!(alloc, fmt, a, b)`.

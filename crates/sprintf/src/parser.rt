@@ -5,7 +5,7 @@ ghost use Rattle.std.specs.List.{prefix_len};
 ghost use Rattle.std.specs.Str.{byte};
 ghost use Rattle.numerals.specs.Numeral.{text_value};
 ghost use Rattle.sprintf.specs.Grammar.{IsFormat, IsNoFormat, has, is_flag, length_modifiers, default_precision};
-ghost use Rattle.sprintf.specs.Reading.{field_with, read_field, read_param, read_precision, skip_one, conversion_of, verbatim};
+ghost use Rattle.sprintf.specs.Inner.Reading.{field_with, read_field, read_param, read_precision, skip_one, conversion_of, verbatim};
 
 use crate::{PrintfError, Result};
 use numerals::{Radix, read_digits};

@@ -1,67 +1,80 @@
 -- Numbers read digit by digit, by steps that stop at the last value.
-use Rattle.std.proofs.Common.{◌≡◌, ℕ, ◌+◌, ◌*◌, ◌-◌, min, List, [], ◌∷◌, Option, Some, None, true, false, Bool, refl, take_while, length, drop, arith, ◌∙◌, ap, sym, suc}
-use Rattle.std.specs.Prelude.{if◌then◌else◌, unwrap_or}
+use Rattle.std.proofs.Common.{◌≡◌, ℕ, ◌+◌, ◌*◌, ◌-◌, min, List, [], ◌∷◌, ◌++◌, Option, Some, None, true, false, Bool, refl, length, arith, ◌∙◌, ap, sym, append_assoc}
+use Rattle.std.specs.Prelude.{unwrap_or, ◌&&◌, slice_index}
 use Rattle.std.specs.Char.{is_ascii_digit, digit_value}
+use Rattle.std.specs.Str.{all_ascii_digits}
 use Rattle.std.specs.Str.Parse.{digits_value_after}
-use Rattle.std.specs.List.{prefix_len, IsFirstAndRest}
+use Rattle.std.specs.List.{IsFirstAndRest}
 use Rattle.std.proofs.lemmas.Bool.Decides.{nat_tests}
-use Rattle.strfmt.specs.Parts.{Part, number_part, capped_number}
-
--- the number so far, one more digit, both stopped at M
-abbrev pub step : ℕ → ℕ → ℕ → ℕ
-step M n b = min (min (n * 10) M + (b - 48)) M
-
--- what reading on gives from a number so far
-abbrev pub read_from : Option ℕ → List ℕ → Part (Option ℕ)
-read_from n [] = record { value = n; rest = [] }
-read_from n (b ∷ bs) = if is_ascii_digit b then read_from (Some (step 18446744073709551615 (unwrap_or n 0) b)) bs else record { value = n; rest = b ∷ bs }
-
--- a stopped step stands for the plain one
-stopped : (M n d : ℕ) → min (min (min n M * 10) M + d) M ≡ min (n * 10 + d) M
-stopped M n d = omega arith
-
-digit_is : (b : ℕ) → is_ascii_digit b ≡ true → digit_value b ≡ b - 48
-digit_is b h = grind (arith, nat_tests, h)
+use Rattle.strfmt.specs.Inner.Reading.{capped_number}
+use Rattle.strfmt.specs.Parts.{number_of, IsNumber}
 
 abbrev last : ℕ
 last = 18446744073709551615
 
-abbrev Reads : ℕ → List ℕ → Type 0
-Reads n bs = read_from (Some (min n last)) bs ≡ record { value = Some (min (digits_value_after 10 n (take_while is_ascii_digit bs)) last); rest = drop (length (take_while is_ascii_digit bs)) bs }
+-- the number so far, one more digit, both stopped at the last value
+abbrev pub step : ℕ → ℕ → ℕ
+step n b = min (min (n * 10) last + (b - 48)) last
 
-reads_digit : (n b : ℕ) (bs : List ℕ) (x : Bool) → is_ascii_digit b ≡ x → ((m : ℕ) → Reads m bs) → Reads n (b ∷ bs)
-reads_digit n b bs true h ih =
-    let e : 1 + prefix_len is_ascii_digit bs ≡ suc (prefix_len is_ascii_digit bs) = omega arith in
-    let now : step last (min n last) b ≡ min (n * 10 + digit_value b) last = ap (λ d. min (min (min n last * 10) last + d) last) (sym (digit_is b h)) ∙ stopped last n (digit_value b) in
-    rw (h, e, now) (ih (n * 10 + digit_value b))
-reads_digit n b bs false h ih = rw h refl
+-- digits were passed, which write the value so far, and rest is left
+pub record Passed (text : List ℕ) (value : Option ℕ) (rest : List ℕ) : Type 0 where
+  pub digits : List ℕ
+  pub all : all_ascii_digits digits ≡ true
+  pub whole : text ≡ digits ++ rest
+  pub is : value ≡ capped_number (number_of digits)
 
--- a number so far, followed by digits
-pub reads_on : (n : ℕ) (bs : List ℕ) → Reads n bs
-reads_on n [] = refl
-reads_on n (b ∷ bs) = reads_digit n b bs (is_ascii_digit b) refl (λ m. reads_on m bs)
+pub passed_none : (text : List ℕ) → Passed text None text
+passed_none text = record { digits = []; all = refl; whole = refl; is = refl }
 
-starts : (b : ℕ) (bs : List ℕ) (x : Bool) → is_ascii_digit b ≡ x → read_from None (b ∷ bs) ≡ record { value = capped_number (number_part (b ∷ bs)).value; rest = (number_part (b ∷ bs)).rest }
-unfolding number_part
-starts b bs true h =
-    let e : 1 + prefix_len is_ascii_digit bs ≡ suc (prefix_len is_ascii_digit bs) = omega arith in
-    let now : step last 0 b ≡ min (0 * 10 + digit_value b) last = ap (λ d. min (min (min 0 last * 10) last + d) last) (sym (digit_is b h)) ∙ stopped last 0 (digit_value b) in
-    rw (h, e, now) (reads_on (0 * 10 + digit_value b) bs)
-starts b bs false h = rw h refl
+digit_is : (b : ℕ) → is_ascii_digit b ≡ true → digit_value b ≡ b - 48
+digit_is b h = grind (arith, nat_tests, h)
 
--- what reading from nothing gives
-pub reads_number : (bs : List ℕ) → read_from None bs ≡ record { value = capped_number (number_part bs).value; rest = (number_part bs).rest }
-unfolding number_part
-reads_number [] = refl
-reads_number (b ∷ bs) = starts b bs (is_ascii_digit b) refl
+stopped : (n d : ℕ) → min (min (min n last * 10) last + d) last ≡ min (n * 10 + d) last
+stopped n d = omega arith
 
--- reading stops where no digit stands in front
-stops_at : (value : Option ℕ) (b : ℕ) (bs : List ℕ) → is_ascii_digit b ≡ false → read_from value (b ∷ bs) ≡ record { value = value; rest = b ∷ bs }
-stops_at value b bs h = rw h refl
+and-push : (x a b : Bool) → (a ≡ true → b ≡ true) → (x && a) ≡ true → (x && b) ≡ true
+and-push true a b f h = f h
+and-push false a b f h = cc
 
-pub stops : (value : Option ℕ) (text rest : List ℕ) (b : ℕ) → IsFirstAndRest text b rest → is_ascii_digit b ≡ false → read_from value text ≡ record { value = value; rest = text }
-stops value text rest b e h = rw (e.0) (stops_at value b rest h)
+all-push : (digits : List ℕ) (b : ℕ) → all_ascii_digits digits ≡ true → is_ascii_digit b ≡ true → all_ascii_digits (digits ++ b ∷ []) ≡ true
+all-push [] b h d = rw d refl
+all-push (c ∷ cs) b h d = and-push (is_ascii_digit c) (all_ascii_digits cs) (all_ascii_digits (cs ++ b ∷ [])) (λ k. all-push cs b k d) h
 
-pub ends : (value : Option ℕ) (text : List ℕ) → length text ≡ 0 → read_from value text ≡ record { value = value; rest = text }
-ends value [] h = refl
-ends value (b ∷ bs) h = absurd (omega (arith, h))
+value-push : (n : ℕ) (digits : List ℕ) (b : ℕ) → digits_value_after 10 n (digits ++ b ∷ []) ≡ digits_value_after 10 n digits * 10 + digit_value b
+value-push n [] b = refl
+value-push n (c ∷ cs) b = value-push (n * 10 + digit_value c) cs b
+
+-- the digits so far, or none, stand for a number that is 0 where there are none
+so_far : (digits : List ℕ) → unwrap_or (capped_number (number_of digits)) 0 ≡ min (digits_value_after 10 0 digits) last
+so_far [] = omega arith
+so_far (c ∷ cs) = refl
+
+some-push : (digits : List ℕ) (b : ℕ) → number_of (digits ++ b ∷ []) ≡ Some (digits_value_after 10 0 (digits ++ b ∷ []))
+some-push [] b = refl
+some-push (c ∷ cs) b = refl
+
+pub passed_more : (text : List ℕ) (value : Option ℕ) (rest tail : List ℕ) (b : ℕ) → Passed text value rest → IsFirstAndRest rest b tail → is_ascii_digit b ≡ true → Passed text (Some (step (unwrap_or value 0) b)) tail
+passed_more text value rest tail b p e d = record {
+  digits = p.digits ++ b ∷ [];
+  all = all-push p.digits b p.all d;
+  whole = p.whole ∙ ap (λ (bs : List ℕ). p.digits ++ bs) e.0 ∙ sym (append_assoc p.digits (b ∷ []) tail);
+  is =
+      let n : ℕ = digits_value_after 10 0 p.digits in
+      let before : unwrap_or value 0 ≡ min n last = ap (λ (v : Option ℕ). unwrap_or v 0) p.is ∙ so_far p.digits in
+      let now : step (min n last) b ≡ min (n * 10 + digit_value b) last = ap (λ d. min (min (min n last * 10) last + d) last) (sym (digit_is b d)) ∙ stopped n (digit_value b) in
+      let pushed : capped_number (number_of (p.digits ++ b ∷ [])) ≡ Some (min (n * 10 + digit_value b) last) =
+      ap capped_number (some-push p.digits b) ∙ ap (λ m. Some (min m last)) (value-push 0 p.digits b) in
+      ap (λ m. Some (step m b)) before ∙ ap (λ (m : ℕ). Some m) now ∙ sym pushed;
+}
+
+number_of_passed : (text : List ℕ) (value : Option ℕ) (rest : List ℕ) → Passed text value rest → is_ascii_digit (slice_index rest 0) ≡ false → (n : Option ℕ) × IsNumber text n rest × (value ≡ capped_number n)
+number_of_passed text value rest p h = (number_of p.digits, (p.digits, p.all, h, refl, p.whole), p.is)
+
+-- no digit stands in front of the rest
+pub passed_stop : (text : List ℕ) (value : Option ℕ) (rest tail : List ℕ) (b : ℕ) → Passed text value rest → IsFirstAndRest rest b tail → is_ascii_digit b ≡ false
+    → (n : Option ℕ) × IsNumber text n rest × (value ≡ capped_number n)
+passed_stop text value rest tail b p e h = number_of_passed text value rest p (ap (λ (bs : List ℕ). is_ascii_digit (slice_index bs 0)) e.0 ∙ h)
+
+pub passed_end : (text : List ℕ) (value : Option ℕ) (rest : List ℕ) → Passed text value rest → length rest ≡ 0 → (n : Option ℕ) × IsNumber text n rest × (value ≡ capped_number n)
+passed_end text value [] p h = number_of_passed text value [] p refl
+passed_end text value (b ∷ bs) p h = absurd (omega (arith, h))

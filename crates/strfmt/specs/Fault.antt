@@ -1,62 +1,86 @@
--- Why a text is refused.
-use Rattle.std.specs.Prelude.{◌≡◌, ◌⊎◌, ℕ, List, ◌++◌, Bool, Option, Some, None, Result, Ok, Err, [], ◌∷◌, if◌then◌else◌, string_bytes, codes}
+-- Why a text, a pattern or a value is refused, with the messages.
+use Rattle.std.specs.Prelude.{◌≡◌, ℕ, List, ◌++◌, Bool, Option, Some, None, Result, Err, [], ◌∷◌, if◌then◌else◌, ◌==◌, ◌||◌, string_bytes, codes, encode_utf8, false}
+use Rattle.std.specs.Char.{is_ascii_control}
+use Rattle.std.specs.Str.{byte}
+use Rattle.numerals.specs.Numeral.{numeral}
 use Rattle.strfmt.specs.declared.types.FmtError.{FmtError}
 use Rattle.strfmt.specs.declared.types.FmtError.TheVariants.{Invalid, KeyError, TypeError, NoMemory}
+use Rattle.strfmt.specs.declared.cause.Cause.{Cause}
+use Rattle.strfmt.specs.declared.cause.Cause.TheVariants.{LoneBrace, NestedBrace, NoClosingBrace, NoKey, GreatWidth, GreatPrecision, NoPrecision, LongType, BadType, BadComma, NotOfIntegers, PrecisionOfInteger, CommaOfInteger, ZeroFillOfInteger, AlternateWithoutType, NotOfTexts, AlternateOfText, CommaOfText, SignOfText, PaddingAtEqual}
 
--- a refusal with its message: the text is malformed, a key has no value, or a type doesn't fit its value
+-- A fault has a kind and a message: what is written is malformed, a key has no value, or a type doesn't fit its value.
 pub data Fault : Type 0 where
   invalid : List ℕ → Fault
   key_error : List ℕ → Fault
   type_error : List ℕ → Fault
 
--- the error is this refusal
+-- The error is this fault.
 abbrev pub IsFault : FmtError → Fault → Type 0
 IsFault (Invalid message) fault = fault ≡ invalid (string_bytes message)
 IsFault (KeyError message) fault = fault ≡ key_error (string_bytes message)
 IsFault (TypeError message) fault = fault ≡ type_error (string_bytes message)
 IsFault NoMemory fault = ⊥
 
--- the same, or there was no memory for the message
-abbrev pub IsFaultOrMemory : FmtError → Fault → Type 0
-IsFaultOrMemory error fault = (error ≡ NoMemory) ⊎ IsFault error fault
+-- The debug text of an ASCII character, without its quotes: a control character stands as its escape.
+abbrev pub escaped : ℕ → List ℕ
+escaped c =
+    if c == byte "'" || c == byte "\\" then byte "\\" ∷ c ∷ []
+    else (if c == 0 then codes "\\0"
+    else (if c == 9 then codes "\\t"
+    else (if c == 13 then codes "\\r"
+    else (if c == 10 then codes "\\n"
+    else (if is_ascii_control c then codes "\\u{" ++ numeral 16 false c ++ codes "}"
+    else encode_utf8 c)))))
 
--- the error is the refusal in this result
-abbrev pub IsRefusal : {A : Type 0} → Result A Fault → FmtError → Type 0
-IsRefusal (Ok x) error = ⊥
-IsRefusal (Err fault) error = IsFault error fault
+-- Each cause has its kind and its message.
+abbrev pub fault_of : Cause → Fault
+fault_of LoneBrace = invalid (codes "Single '}' encountered in format string")
+fault_of NestedBrace = invalid (codes "extra { found")
+fault_of NoClosingBrace = invalid (codes "Expected '}' before end of string")
+fault_of NoKey = invalid (codes "must specify identifier")
+fault_of GreatWidth = invalid (codes "overflow error when parsing width")
+fault_of NoPrecision = invalid (codes "Format specifier missing precision")
+fault_of GreatPrecision = invalid (codes "overflow error when parsing precision")
+fault_of LongType = invalid (codes "Invalid format specifier")
+fault_of (BadType c) = type_error (codes "Invalid type specifier: '" ++ escaped c ++ codes "'")
+fault_of (BadComma c) = invalid (codes "Invalid comma type: " ++ encode_utf8 c)
+fault_of (NotOfIntegers c) = type_error (codes "Unknown format code '" ++ encode_utf8 c ++ codes "' for type")
+fault_of PrecisionOfInteger = type_error (codes "precision not allowed for integers")
+fault_of CommaOfInteger = invalid (codes "thousands specifier not yet supported")
+fault_of ZeroFillOfInteger = invalid (codes "sign aware 0 padding not yet supported")
+fault_of AlternateWithoutType = invalid (codes "alternate ('#') cannot be used with type ' '")
+fault_of (NotOfTexts c) = type_error (codes "Unknown format code Some('" ++ encode_utf8 c ++ codes "') for object of type 'str'")
+fault_of AlternateOfText = type_error (codes "Alternate form (#) not allowed in string format specifier")
+fault_of CommaOfText = type_error (codes "Cannot specify ',' with 's'")
+fault_of SignOfText = type_error (codes "Sign not allowed in string format specifier")
+fault_of PaddingAtEqual = invalid (codes "sign aware zero padding and Align '=' not yet supported")
 
--- a text, or the refusal in its place
+-- A key without a value is told by its text.
+abbrev pub no_value : List ℕ → Fault
+no_value key = key_error (codes "Invalid key: " ++ key)
+
+-- An outcome is a text, or a fault in its place.
 abbrev pub Outcome : Type 0
 Outcome = Result (List ℕ) Fault
 
--- the outcome with a text before it; a refusal stays
-abbrev pub after : List ℕ → Outcome → Outcome
-after front (Ok text) = Ok (front ++ text)
-after front (Err fault) = Err fault
-
--- a test that may fail, and the refusal that it then gives
+-- A check is a test that may fail, with the cause that it then has.
 pub record Check : Type 0 where
   pub fails : Bool
-  pub fault : Fault
+  pub cause : Cause
 
--- the refusal of the first check that fails
-abbrev pub first_failure : List Check → Option Fault
+-- The first check that fails gives the cause.
+abbrev pub first_failure : List Check → Option Cause
 first_failure [] = None
-first_failure (check ∷ checks) = if check.fails then Some check.fault else first_failure checks
+first_failure (check ∷ checks) = if check.fails then Some check.cause else first_failure checks
 
--- the error is this failure
-abbrev pub IsFailure : Option Fault → FmtError → Type 0
-IsFailure None error = ⊥
-IsFailure (Some fault) error = IsFault error fault
+-- A cause's fault stands in the place of the outcome.
+abbrev pub unless : {A : Type 0} → Option Cause → Result A Fault → Result A Fault
+unless None outcome = outcome
+unless (Some cause) outcome = Err (fault_of cause)
 
--- what the checks refuse first, and else the outcome
-abbrev pub unless_refused : {A : Type 0} → Option Fault → Result A Fault → Result A Fault
-unless_refused None outcome = outcome
-unless_refused (Some fault) outcome = Err fault
-
--- an error as it is displayed
+-- An error is displayed as its kind with the message.
 abbrev pub error_text : FmtError → List ℕ
-error_text (Invalid message) = codes "Invalid(" ++ (string_bytes message ++ codes ")")
-error_text (KeyError message) = codes "KeyError(" ++ (string_bytes message ++ codes ")")
-error_text (TypeError message) = codes "TypeError(" ++ (string_bytes message ++ codes ")")
+error_text (Invalid message) = codes "Invalid(" ++ string_bytes message ++ codes ")"
+error_text (KeyError message) = codes "KeyError(" ++ string_bytes message ++ codes ")"
+error_text (TypeError message) = codes "TypeError(" ++ string_bytes message ++ codes ")"
 error_text NoMemory = codes "NoMemory"

@@ -1,14 +1,12 @@
 pub mod Fault
-pub mod Message
 pub mod Spec
 pub mod Parts
 pub mod Pattern
 pub mod Field
 pub mod Piece
-pub mod Sides
 pub mod Key
 pub mod Text
-pub mod Law
 pub mod Values
-pub mod Cutting
 pub mod Walk
+pub mod Law
+pub mod Inner

@@ -1,88 +1,69 @@
--- How a specification is written. All are bytes but for the fill, which is a character.
-use Rattle.std.specs.Prelude.{ℕ, ◌-◌, ◌^◌, min, option_map, List, [], ◌∷◌, Bool, true, false, Option, Some, None, if◌then◌else◌, ◌==◌, is_some, slice_index, drop, take_while, length, chars}
-use Rattle.std.specs.Char.{is_ascii_digit, len_utf8}
+-- How a specification is written: its parts stand end to end, each there wherever it can be.
+use Rattle.std.specs.Prelude.{◌≡◌, ◌≢◌, ℕ, List, [], ◌∷◌, ◌++◌, Bool, true, false, Option, Some, None, if◌then◌else◌, ◌==◌, slice_index, encode_utf8}
+use Rattle.std.specs.Char.{is_ascii_digit}
+use Rattle.std.specs.Str.{byte, all_ascii_digits}
 use Rattle.std.specs.Str.Parse.{digits_value}
 use Rattle.strfmt.specs.declared.types.Alignment.{Alignment}
 use Rattle.strfmt.specs.declared.types.Alignment.TheVariants.{Left, Center, Right, Equal}
 use Rattle.strfmt.specs.declared.types.Sign.{Sign}
 use Rattle.strfmt.specs.declared.types.Sign.TheVariants.{Plus, Minus, Space}
 
--- a part of a specification, and the bytes after it
-pub record Part (A : Type 0) : Type 0 where
-  pub value : A
-  pub rest : List ℕ
-
--- the first byte, or 0
-abbrev pub first : List ℕ → ℕ
-first text = slice_index text 0
-
--- an optional byte that stands for something
-abbrev pub optional : {A : Type 0} → (ℕ → Option A) → List ℕ → Part (Option A)
-optional meaning text = record {
-  value = meaning (first text);
-  rest = if is_some (meaning (first text)) then drop 1 text else text;
-}
-
--- an optional byte b
-abbrev pub flag : ℕ → List ℕ → Part Bool
-flag b text = record { value = first text == b; rest = if first text == b then drop 1 text else text }
-
--- `<`, `^`, `>` and `=`
+-- These bytes stand for an alignment.
 abbrev pub alignment_of : ℕ → Option Alignment
 alignment_of b =
-    if b == 60 then Some Left
-    else (if b == 94 then Some Center
-    else (if b == 62 then Some Right
-    else (if b == 61 then Some Equal
+    if b == byte "<" then Some Left
+    else (if b == byte "^" then Some Center
+    else (if b == byte ">" then Some Right
+    else (if b == byte "=" then Some Equal
     else None)))
 
-unfoldable pub alignment_part : List ℕ → Part (Option Alignment)
-alignment_part text = optional alignment_of text
-
--- a space, `-` and `+`
+-- These bytes stand for a sign.
 abbrev pub sign_of : ℕ → Option Sign
 sign_of b =
-    if b == 32 then Some Space
-    else (if b == 45 then Some Minus
-    else (if b == 43 then Some Plus
+    if b == byte " " then Some Space
+    else (if b == byte "-" then Some Minus
+    else (if b == byte "+" then Some Plus
     else None))
 
-unfoldable pub sign_part : List ℕ → Part (Option Sign)
-sign_part text = optional sign_of text
+-- A byte that stands for something is in front of the rest, or none is; an empty text has the byte 0 in front.
+abbrev pub IsMark : {A : Type 0} → (ℕ → Option A) → List ℕ → Option A → List ℕ → Type 0
+IsMark meaning text (Some value) rest = (b : ℕ) × (meaning b ≡ Some value) × (text ≡ b ∷ rest)
+IsMark meaning text None rest = (meaning (slice_index text 0) ≡ None) × (text ≡ rest)
 
--- the first character, or 0, and the bytes after it
-abbrev pub first_char : List ℕ → Part ℕ
-first_char text =
-    let c = slice_index (chars text) 0 in
-    record { value = c; rest = drop (len_utf8 c) text }
+-- The byte b is in front of the rest, or it is not in front.
+abbrev pub IsFlag : ℕ → List ℕ → Bool → List ℕ → Type 0
+IsFlag b text true rest = text ≡ b ∷ rest
+IsFlag b text false rest = (slice_index text 0 ≢ b) × (text ≡ rest)
 
--- a fill character with an alignment after it, or an alignment alone
-pub record Aligned : Type 0 where
-  pub fill : Option ℕ
-  pub align : Option Alignment
+-- No character in front has an alignment after it.
+abbrev pub HasNoFill : List ℕ → Type 0
+HasNoFill text = (c : ℕ) (after : List ℕ) → text ≡ encode_utf8 c ++ after → alignment_of (slice_index after 0) ≡ None
 
--- the alignment after a first character
-abbrev pub filled_part : List ℕ → Part (Option Alignment)
-filled_part text = alignment_part (first_char text).rest
+-- A fill is a character with an alignment after it; without a fill, an alignment may stand alone.
+abbrev pub IsFilled : List ℕ → Option ℕ → Option Alignment → List ℕ → Type 0
+IsFilled text (Some fill) align rest = (after : List ℕ) × (text ≡ encode_utf8 fill ++ after) × (align ≢ None) × IsMark alignment_of after align rest
+IsFilled text None align rest = HasNoFill text × IsMark alignment_of text align rest
 
-unfoldable pub aligned_part : List ℕ → Part Aligned
-aligned_part text =
-    let second = filled_part text in
-    let alone = alignment_part text in
-    if is_some second.value then record { value = record { fill = Some (first_char text).value; align = second.value }; rest = second.rest }
-    else record { value = record { fill = None; align = alone.value }; rest = alone.rest }
+-- A zero can only be where no fill is.
+abbrev pub IsZero : Option ℕ → List ℕ → Bool → List ℕ → Type 0
+IsZero None text zero rest = IsFlag (byte "0") text zero rest
+IsZero (Some fill) text zero rest = (zero ≡ false) × (text ≡ rest)
 
--- the number that decimal digits write, if there are any
+-- Decimal digits write a number, no digits none.
 abbrev pub number_of : List ℕ → Option ℕ
 number_of [] = None
 number_of (digit ∷ digits) = Some (digits_value 10 (digit ∷ digits))
 
-unfoldable pub number_part : List ℕ → Part (Option ℕ)
-number_part text =
-    let digits = take_while is_ascii_digit text in
-    record { value = number_of digits; rest = drop (length digits) text }
+-- As many digits as there are stand in front of the rest.
+abbrev pub IsNumber : List ℕ → Option ℕ → List ℕ → Type 0
+IsNumber text number rest = (digits : List ℕ) × (all_ascii_digits digits ≡ true) × (is_ascii_digit (slice_index rest 0) ≡ false) × (number ≡ number_of digits) × (text ≡ digits ++ rest)
 
--- a specification as it is written
+-- A precision can only be after a dot.
+abbrev pub IsPrecision : Bool → List ℕ → Option ℕ → List ℕ → Type 0
+IsPrecision true text number rest = IsNumber text number rest
+IsPrecision false text number rest = (number ≡ None) × (text ≡ rest)
+
+-- The parts, and the bytes that are left after them.
 pub record Parts : Type 0 where
   pub fill : Option ℕ
   pub align : Option Alignment
@@ -95,43 +76,15 @@ pub record Parts : Type 0 where
   pub precision : Option ℕ
   pub left : List ℕ
 
--- a zero, only where no fill stands
-abbrev pub zero_part : Option ℕ → List ℕ → Part Bool
-zero_part None text = flag 48 text
-zero_part (Some fill) text = record { value = false; rest = text }
-
--- a number, only after a dot
-abbrev pub precision_part : Bool → List ℕ → Part (Option ℕ)
-precision_part true text = number_part text
-precision_part false text = record { value = None; rest = text }
-
--- each part is optional
-unfoldable pub parts_of : List ℕ → Parts
-parts_of text =
-    let aligned = aligned_part text in
-    let sign = sign_part aligned.rest in
-    let alternate = flag 35 sign.rest in
-    let zero = zero_part aligned.value.fill alternate.rest in
-    let width = number_part zero.rest in
-    let thousands = flag 44 width.rest in
-    let dot = flag 46 thousands.rest in
-    let precision = precision_part dot.value dot.rest in
-    record {
-      fill = aligned.value.fill;
-      align = aligned.value.align;
-      sign = sign.value;
-      alternate = alternate.value;
-      zero = zero.value;
-      width = width.value;
-      thousands = thousands.value;
-      dot = dot.value;
-      precision = precision.value;
-      left = precision.rest;
-    }
-
--- the parts, with each number that is too large for its type at the type's last value
-abbrev pub capped_number : Option ℕ → Option ℕ
-capped_number number = option_map (λ n. min n (2 ^ 64 - 1)) number
-
-abbrev pub capped : Parts → Parts
-capped parts = record parts { width = capped_number parts.width; precision = capped_number parts.precision }
+-- The text is these parts in this order.
+abbrev pub IsWritten : List ℕ → Parts → Type 0
+IsWritten text parts =
+    (t u v w x y z : List ℕ)
+    × IsFilled text parts.fill parts.align t
+    × IsMark sign_of t parts.sign u
+    × IsFlag (byte "#") u parts.alternate v
+    × IsZero parts.fill v parts.zero w
+    × IsNumber w parts.width x
+    × IsFlag (byte ",") x parts.thousands y
+    × IsFlag (byte ".") y parts.dot z
+    × IsPrecision parts.dot z parts.precision parts.left

@@ -1,18 +1,51 @@
 // A text cut at its braces.
 
-ghost use Rattle.std.specs.Prelude.{◌≡◌, ◌≢◌, ◌∷◌, ◌<◌, ◌≤◌, length, slice_index, take, drop};
-ghost use Rattle.strfmt.specs.Cutting.{BeginsWithBrace, IsNext, IsPlainFront};
+ghost use Rattle.std.specs.Prelude.{◌≡◌, ◌≢◌, ◌∷◌, [], ◌<◌, ◌≤◌, length, slice_index, take, drop};
+ghost use Rattle.std.specs.Str.{byte};
+ghost use Rattle.strfmt.specs.Inner.Cutting.{BeginsWithBrace, IsNext, IsPlainFront, brace_byte};
+ghost use Rattle.strfmt.specs.Piece.{IsBrace};
+
+use crate::cause::Cause;
+
+#[derive(Clone, Copy)]
+pub(crate) enum Brace {
+    Open,
+    Close,
+}
+
+impl Brace {
+    /// The brace of this byte.
+    fn of(byte: u8) -> Brace
+        requires { IsBrace byte }
+        ensures { brace_byte result ≡ byte }
+    {
+        if byte == b'{' {
+            Brace::Open
+        } else {
+            Brace::Close
+        }
+    }
+
+    pub(crate) fn as_str(self) -> &'static str
+        ensures { result.now ≡ brace_byte self ∷ [] }
+    {
+        match self {
+            Brace::Open => "{",
+            Brace::Close => "}",
+        }
+    }
+}
 
 /// What stands at the front of a text that is empty or begins with a brace, and the text after it.
 #[derive(Drop)]
 pub(crate) enum Next<'a> {
     End,
     /// A brace that is doubled.
-    Escape(char, &'a str),
+    Escape(Brace, &'a str),
     /// A pattern without its braces.
     Pattern(&'a str, &'a str),
-    /// A brace that is wrong, with its message.
-    Wrong(&'a str),
+    /// A brace that is wrong.
+    Wrong(Cause),
 }
 
 /// Where the first brace stands, or the length.
@@ -22,7 +55,7 @@ fn find_brace(text: &[u8]) -> usize
 {
     let mut rest = text;
     let mut found = 0;
-    while let Some((first, tail)) = rest.split_first() {
+    'bytes: while let Some((first, tail)) = rest.split_first() {
         if *first == b'{' || *first == b'}' {
             break;
         }
@@ -62,26 +95,26 @@ pub(crate) fn look(text: &str) -> Next<'_>
     let after = after_ascii(text);
     let following = after.as_bytes();
     if !following.is_empty() && following[0] == brace {
-        return Next::Escape(char::from(brace), after_ascii(after));
+        return Next::Escape(Brace::of(brace), after_ascii(after));
     }
     if brace == b'}' {
-        return Next::Wrong("Single '}' encountered in format string");
+        return Next::Wrong(Cause::LoneBrace);
     }
     pattern(after)
 }
 
 /// A pattern, of which `text` stands after its opening brace.
 fn pattern(text: &str) -> Next<'_>
-    requires { slice_index text.now 0 ≢ 123 }
-    ensures { IsNext (123 ∷ text.now) result }
+    requires { slice_index text.now 0 ≢ byte "{" }
+    ensures { IsNext (byte "{" ∷ text.now) result }
 {
     let (inner, rest) = split_plain(text);
     let bytes = rest.as_bytes();
     if bytes.is_empty() {
-        return Next::Wrong("Expected '}' before end of string");
+        return Next::Wrong(Cause::NoClosingBrace);
     }
     if bytes[0] == b'}' {
         return Next::Pattern(inner, after_ascii(rest));
     }
-    Next::Wrong("extra { found")
+    Next::Wrong(Cause::NestedBrace)
 }

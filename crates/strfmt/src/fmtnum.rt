@@ -1,13 +1,14 @@
 // Integers: their field, and the twelve calls.
 
-ghost use Rattle.std.specs.Prelude.{◌≡◌, ◌++◌, ◌∷◌, [], ◌⊎◌, None, OnOk, OnErr, IfOk, IfErr, false, if◌then◌else◌, codes, string_bytes, unwrap_or};
+ghost use Rattle.std.specs.Prelude.{◌≡◌, ◌++◌, [], IfOk, false, if◌then◌else◌, codes, string_bytes};
 ghost use Rattle.std.specs.Int.{w8, w16, w32, w64, w128};
 ghost use Rattle.numerals.specs.Numeral.{base_of, numeral};
-ghost use Rattle.strfmt.specs.Fault.{IsRefusal, IsFailure, first_failure};
-ghost use Rattle.strfmt.specs.Field.{digits_of, integer_checks, integer_field, letter_of, signed, unchecked_integer_field, unsigned};
-ghost use Rattle.strfmt.specs.Spec.{IsAppended, view_aligned};
+ghost use Rattle.strfmt.specs.Fault.{first_failure};
+ghost use Rattle.strfmt.specs.Field.{digits_of, integer_checks, integer_field, prefix_of, signed, unchecked_integer_field, unsigned};
+ghost use Rattle.strfmt.specs.Spec.{Appends, view_aligned};
 
-use crate::{Alignment, FmtError, Formatter, Result, types};
+use crate::cause::Cause;
+use crate::{Alignment, FmtError, Formatter, Result};
 use numerals::{NoMemory, Radix, push_digits};
 use std::alloc::Global;
 
@@ -54,7 +55,7 @@ fn digits(
 
 /// The plus and the prefix that stand before the padded digits.
 fn front(plus: bool, alternate: bool, ty: Option<char>) -> &'static str
-    ensures { result.now ≡ (if plus then codes "+" else []) ++ (if alternate then 48 ∷ letter_of (unwrap_or ty 0) ∷ [] else []) }
+    ensures { result.now ≡ (if plus then codes "+" else []) ++ prefix_of alternate ty }
 {
     match (plus, alternate) {
         (false, false) => "",
@@ -73,36 +74,32 @@ fn front(plus: bool, alternate: bool, ty: Option<char>) -> &'static str
 }
 
 impl Formatter<'_> {
-    /// Refuses a specification that isn't one of an integer.
-    fn check_integer(&self) -> Result<()>
-        ensures ok { OnOk result (first_failure (integer_checks self.now.spec) ≡ None) }
-        ensures err { IfErr result (λ e. (e ≡ FmtError.NoMemory) ⊎ IsFailure (first_failure (integer_checks self.now.spec)) e) }
+    /// Why the specification isn't one of an integer.
+    fn integer_cause(&self) -> Option<Cause>
+        ensures { result ≡ first_failure (integer_checks self.now.spec) }
     {
-        let alloc = *self.text.allocator();
         match self.ty {
             None | Some('b' | 'o' | 'x' | 'X') => {}
-            Some(ty) => return Err(types::not_of_integers(alloc, ty)),
+            Some(ty) => return Some(Cause::NotOfIntegers(ty)),
         }
         if self.precision.is_some() {
-            return Err(FmtError::type_error(alloc, "precision not allowed for integers"));
+            return Some(Cause::PrecisionOfInteger);
         }
         if self.thousands {
-            return Err(FmtError::invalid(alloc, "thousands specifier not yet supported"));
+            return Some(Cause::CommaOfInteger);
         }
         if self.fill == '0' && matches!(self.align, Alignment::Right) {
-            return Err(FmtError::invalid(alloc, "sign aware 0 padding not yet supported"));
+            return Some(Cause::ZeroFillOfInteger);
         }
         if self.alternate && self.ty.is_none() {
-            return Err(FmtError::invalid(alloc, "alternate ('#') cannot be used with type ' '"));
+            return Some(Cause::AlternateWithoutType);
         }
-        Ok(())
+        None
     }
 
     /// Appends an integer as its field, without checks.
     fn write_integer(&mut self, negative: bool, magnitude: u128, bits: u128) -> Result<()>
-        ensures ok { OnOk result (IsAppended (unchecked_integer_field self.old.spec (record { negative = negative; magnitude = magnitude; bits = bits })) self.old self.new) }
-        ensures err { IfErr result (λ e. (e ≡ FmtError.NoMemory) ⊎ IsRefusal (unchecked_integer_field self.old.spec (record { negative = negative; magnitude = magnitude; bits = bits })) e) }
-        ensures same { OnErr result (self.new ≡ self.old) }
+        ensures { Appends (unchecked_integer_field self.old.spec (record { negative = negative; magnitude = magnitude; bits = bits })) self.old result self.new }
     {
         let plus = self.sign_plus() && !negative;
         match digits(*self.text.allocator(), self.ty, negative, magnitude, bits) {
@@ -113,69 +110,60 @@ impl Formatter<'_> {
 
     /// Appends an integer as its field, with `Right` as the default alignment.
     fn integer(&mut self, negative: bool, magnitude: u128, bits: u128) -> Result<()>
-        ensures ok { OnOk result (IsAppended (integer_field self.old.spec (record { negative = negative; magnitude = magnitude; bits = bits })) (view_aligned Alignment.Right self.old) self.new) }
-        ensures err { IfErr result (λ e. (e ≡ FmtError.NoMemory) ⊎ IsRefusal (integer_field self.old.spec (record { negative = negative; magnitude = magnitude; bits = bits })) e) }
-        ensures same { OnErr result (self.new ≡ view_aligned Alignment.Right self.old) }
+        ensures { Appends (integer_field self.old.spec (record { negative = negative; magnitude = magnitude; bits = bits })) (view_aligned Alignment.Right self.old) result self.new }
     {
         self.set_default_align(Alignment::Right);
-        match self.check_integer() {
-            Ok(()) => self.write_integer(negative, magnitude, bits),
-            Err(error) => Err(error),
+        match self.integer_cause() {
+            None => self.write_integer(negative, magnitude, bits),
+            Some(cause) => Err(cause.told(*self.text.allocator())),
         }
     }
 
+    /// Appends the number as its field; an unspecified alignment becomes `Right`.
     pub fn u8(&mut self, x: u8) -> Result<()>
-        ensures ok { OnOk result (IsAppended (integer_field self.old.spec (unsigned x)) (view_aligned Alignment.Right self.old) self.new) }
-        ensures err { IfErr result (λ e. (e ≡ FmtError.NoMemory) ⊎ IsRefusal (integer_field self.old.spec (unsigned x)) e) }
-        ensures same { OnErr result (self.new ≡ view_aligned Alignment.Right self.old) }
+        ensures { Appends (integer_field self.old.spec (unsigned x)) (view_aligned Alignment.Right self.old) result self.new }
     {
         self.integer(false, u128::from(x), u128::from(x))
     }
 
+    /// Appends the number as its field; an unspecified alignment becomes `Right`.
     pub fn u16(&mut self, x: u16) -> Result<()>
-        ensures ok { OnOk result (IsAppended (integer_field self.old.spec (unsigned x)) (view_aligned Alignment.Right self.old) self.new) }
-        ensures err { IfErr result (λ e. (e ≡ FmtError.NoMemory) ⊎ IsRefusal (integer_field self.old.spec (unsigned x)) e) }
-        ensures same { OnErr result (self.new ≡ view_aligned Alignment.Right self.old) }
+        ensures { Appends (integer_field self.old.spec (unsigned x)) (view_aligned Alignment.Right self.old) result self.new }
     {
         self.integer(false, u128::from(x), u128::from(x))
     }
 
+    /// Appends the number as its field; an unspecified alignment becomes `Right`.
     pub fn u32(&mut self, x: u32) -> Result<()>
-        ensures ok { OnOk result (IsAppended (integer_field self.old.spec (unsigned x)) (view_aligned Alignment.Right self.old) self.new) }
-        ensures err { IfErr result (λ e. (e ≡ FmtError.NoMemory) ⊎ IsRefusal (integer_field self.old.spec (unsigned x)) e) }
-        ensures same { OnErr result (self.new ≡ view_aligned Alignment.Right self.old) }
+        ensures { Appends (integer_field self.old.spec (unsigned x)) (view_aligned Alignment.Right self.old) result self.new }
     {
         self.integer(false, u128::from(x), u128::from(x))
     }
 
+    /// Appends the number as its field; an unspecified alignment becomes `Right`.
     pub fn u64(&mut self, x: u64) -> Result<()>
-        ensures ok { OnOk result (IsAppended (integer_field self.old.spec (unsigned x)) (view_aligned Alignment.Right self.old) self.new) }
-        ensures err { IfErr result (λ e. (e ≡ FmtError.NoMemory) ⊎ IsRefusal (integer_field self.old.spec (unsigned x)) e) }
-        ensures same { OnErr result (self.new ≡ view_aligned Alignment.Right self.old) }
+        ensures { Appends (integer_field self.old.spec (unsigned x)) (view_aligned Alignment.Right self.old) result self.new }
     {
         self.integer(false, u128::from(x), u128::from(x))
     }
 
+    /// Appends the number as its field; an unspecified alignment becomes `Right`.
     pub fn u128(&mut self, x: u128) -> Result<()>
-        ensures ok { OnOk result (IsAppended (integer_field self.old.spec (unsigned x)) (view_aligned Alignment.Right self.old) self.new) }
-        ensures err { IfErr result (λ e. (e ≡ FmtError.NoMemory) ⊎ IsRefusal (integer_field self.old.spec (unsigned x)) e) }
-        ensures same { OnErr result (self.new ≡ view_aligned Alignment.Right self.old) }
+        ensures { Appends (integer_field self.old.spec (unsigned x)) (view_aligned Alignment.Right self.old) result self.new }
     {
         self.integer(false, x, x)
     }
 
+    /// Appends the number as its field; an unspecified alignment becomes `Right`.
     pub fn usize(&mut self, x: usize) -> Result<()>
-        ensures ok { OnOk result (IsAppended (integer_field self.old.spec (unsigned x)) (view_aligned Alignment.Right self.old) self.new) }
-        ensures err { IfErr result (λ e. (e ≡ FmtError.NoMemory) ⊎ IsRefusal (integer_field self.old.spec (unsigned x)) e) }
-        ensures same { OnErr result (self.new ≡ view_aligned Alignment.Right self.old) }
+        ensures { Appends (integer_field self.old.spec (unsigned x)) (view_aligned Alignment.Right self.old) result self.new }
     {
         self.integer(false, x as u128, x as u128)
     }
 
+    /// Appends the number as its field; an unspecified alignment becomes `Right`.
     pub fn i8(&mut self, x: i8) -> Result<()>
-        ensures ok { OnOk result (IsAppended (integer_field self.old.spec (signed w8 x)) (view_aligned Alignment.Right self.old) self.new) }
-        ensures err { IfErr result (λ e. (e ≡ FmtError.NoMemory) ⊎ IsRefusal (integer_field self.old.spec (signed w8 x)) e) }
-        ensures same { OnErr result (self.new ≡ view_aligned Alignment.Right self.old) }
+        ensures { Appends (integer_field self.old.spec (signed w8 x)) (view_aligned Alignment.Right self.old) result self.new }
     {
         self.integer(
             x < 0,
@@ -184,10 +172,9 @@ impl Formatter<'_> {
         )
     }
 
+    /// Appends the number as its field; an unspecified alignment becomes `Right`.
     pub fn i16(&mut self, x: i16) -> Result<()>
-        ensures ok { OnOk result (IsAppended (integer_field self.old.spec (signed w16 x)) (view_aligned Alignment.Right self.old) self.new) }
-        ensures err { IfErr result (λ e. (e ≡ FmtError.NoMemory) ⊎ IsRefusal (integer_field self.old.spec (signed w16 x)) e) }
-        ensures same { OnErr result (self.new ≡ view_aligned Alignment.Right self.old) }
+        ensures { Appends (integer_field self.old.spec (signed w16 x)) (view_aligned Alignment.Right self.old) result self.new }
     {
         self.integer(
             x < 0,
@@ -196,10 +183,9 @@ impl Formatter<'_> {
         )
     }
 
+    /// Appends the number as its field; an unspecified alignment becomes `Right`.
     pub fn i32(&mut self, x: i32) -> Result<()>
-        ensures ok { OnOk result (IsAppended (integer_field self.old.spec (signed w32 x)) (view_aligned Alignment.Right self.old) self.new) }
-        ensures err { IfErr result (λ e. (e ≡ FmtError.NoMemory) ⊎ IsRefusal (integer_field self.old.spec (signed w32 x)) e) }
-        ensures same { OnErr result (self.new ≡ view_aligned Alignment.Right self.old) }
+        ensures { Appends (integer_field self.old.spec (signed w32 x)) (view_aligned Alignment.Right self.old) result self.new }
     {
         self.integer(
             x < 0,
@@ -208,10 +194,9 @@ impl Formatter<'_> {
         )
     }
 
+    /// Appends the number as its field; an unspecified alignment becomes `Right`.
     pub fn i64(&mut self, x: i64) -> Result<()>
-        ensures ok { OnOk result (IsAppended (integer_field self.old.spec (signed w64 x)) (view_aligned Alignment.Right self.old) self.new) }
-        ensures err { IfErr result (λ e. (e ≡ FmtError.NoMemory) ⊎ IsRefusal (integer_field self.old.spec (signed w64 x)) e) }
-        ensures same { OnErr result (self.new ≡ view_aligned Alignment.Right self.old) }
+        ensures { Appends (integer_field self.old.spec (signed w64 x)) (view_aligned Alignment.Right self.old) result self.new }
     {
         self.integer(
             x < 0,
@@ -220,18 +205,16 @@ impl Formatter<'_> {
         )
     }
 
+    /// Appends the number as its field; an unspecified alignment becomes `Right`.
     pub fn i128(&mut self, x: i128) -> Result<()>
-        ensures ok { OnOk result (IsAppended (integer_field self.old.spec (signed w128 x)) (view_aligned Alignment.Right self.old) self.new) }
-        ensures err { IfErr result (λ e. (e ≡ FmtError.NoMemory) ⊎ IsRefusal (integer_field self.old.spec (signed w128 x)) e) }
-        ensures same { OnErr result (self.new ≡ view_aligned Alignment.Right self.old) }
+        ensures { Appends (integer_field self.old.spec (signed w128 x)) (view_aligned Alignment.Right self.old) result self.new }
     {
         self.integer(x < 0, x.unsigned_abs(), x.cast_unsigned())
     }
 
+    /// Appends the number as its field; an unspecified alignment becomes `Right`.
     pub fn isize(&mut self, x: isize) -> Result<()>
-        ensures ok { OnOk result (IsAppended (integer_field self.old.spec (signed w64 x)) (view_aligned Alignment.Right self.old) self.new) }
-        ensures err { IfErr result (λ e. (e ≡ FmtError.NoMemory) ⊎ IsRefusal (integer_field self.old.spec (signed w64 x)) e) }
-        ensures same { OnErr result (self.new ≡ view_aligned Alignment.Right self.old) }
+        ensures { Appends (integer_field self.old.spec (signed w64 x)) (view_aligned Alignment.Right self.old) result self.new }
     {
         self.integer(x < 0, x.unsigned_abs() as u128, x.cast_unsigned() as u128)
     }

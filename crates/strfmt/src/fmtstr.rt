@@ -1,42 +1,60 @@
-// Texts: their field, and the walk over a text with patterns.
+// Texts: their field, and the filling of a text with patterns.
 
-ghost use Rattle.std.specs.Prelude.{◌≡◌, ◌⊎◌, None, Ok, Err, OnOk, OnErr, IfOk, IfErr, chars, string_bytes};
-ghost use Rattle.strfmt.specs.Fault.{IsRefusal, IsFailure, first_failure, after};
-ghost use Rattle.strfmt.specs.Field.{encoded, padded, text_checks, text_field, unchecked_field};
-ghost use Rattle.strfmt.specs.Spec.{IsAppended, view_aligned};
+ghost use Rattle.std.specs.Prelude.{◌≡◌, ◌⊎◌, [], Ok, Err, IfOk, IfErr, chars, string_bytes};
+ghost use Rattle.strfmt.specs.Fault.{first_failure};
+ghost use Rattle.strfmt.specs.Field.{padded, sides, text_checks, text_field, unchecked_field};
+ghost use Rattle.strfmt.specs.Spec.{Appends, view_aligned};
 ghost use Rattle.strfmt.specs.Walk.{IsWalk};
 
-use crate::cutting::{Next, look, split_plain};
-use crate::padding::{count_chars, front, push_field, sides};
-use crate::{Alignment, FmtError, Formatter, Result, types};
+use crate::cause::Cause;
+use crate::{Alignment, FmtError, Formatter, Result, Template};
+use padding::{Field, count_chars, front};
 use std::alloc::Global;
+
+/// How many fills stand on the left and on the right; at `Equal` there is no place for any.
+fn sides(align: &Alignment, missing: usize) -> Option<(usize, usize)>
+    ensures { result ≡ sides align.now missing }
+{
+    if missing == 0 {
+        return Some((0, 0));
+    }
+    match align {
+        Alignment::Unspecified | Alignment::Left => Some((0, missing)),
+        Alignment::Right => Some((missing, 0)),
+        Alignment::Center => Some((missing / 2, missing - missing / 2)),
+        Alignment::Equal => None,
+    }
+}
 
 impl Formatter<'_> {
     /// Appends `front`, and then `text` padded to the width.
     pub(crate) fn write_padded(&mut self, front: &str, text: &str) -> Result<()>
-        ensures ok { OnOk result (IsAppended (after front.now (encoded (padded self.old.spec (chars text.now)))) self.old self.new) }
-        ensures err { IfErr result (λ e. (e ≡ FmtError.NoMemory) ⊎ IsRefusal (after front.now (encoded (padded self.old.spec (chars text.now)))) e) }
-        ensures same { OnErr result (self.new ≡ self.old) }
+        ensures { Appends (padded self.old.spec front.now (chars text.now)) self.old result self.new }
     {
         let missing = self.width.unwrap_or(0).saturating_sub(count_chars(text));
-        match sides(&self.align, missing) {
-            Some(sides) => push_field(&mut self.text, front, text, self.fill, sides).map_err(
-                |_| FmtError::NoMemory,
-            ),
-            None => Err(FmtError::invalid(
-                *self.text.allocator(),
-                "sign aware zero padding and Align '=' not yet supported",
-            )),
+        let Some((left, right)) = sides(&self.align, missing) else {
+            return Err(Cause::PaddingAtEqual.told(*self.text.allocator()));
+        };
+        let field = Field {
+            head: front,
+            left,
+            lead: "",
+            zeros: 0,
+            text,
+            right,
+            fill: self.fill,
+        };
+        if field.push(&mut self.text).is_err() {
+            return Err(FmtError::NoMemory);
         }
+        Ok(())
     }
 
     /// Appends a text, cut to the precision and padded to the width; an unspecified alignment pads as `Left`.
     ///
     /// `Invalid` comes where the alignment is `Equal` and padding is needed. Nothing else of the specification is looked at.
     pub fn str_unchecked(&mut self, s: &str) -> Result<()>
-        ensures ok { OnOk result (IsAppended (unchecked_field self.old.spec s.now) self.old self.new) }
-        ensures err { IfErr result (λ e. (e ≡ FmtError.NoMemory) ⊎ IsRefusal (unchecked_field self.old.spec s.now) e) }
-        ensures same { OnErr result (self.new ≡ self.old) }
+        ensures { Appends (unchecked_field self.old.spec s.now) self.old result self.new }
     {
         match self.precision {
             Some(precision) => self.write_padded("", front(s, precision)),
@@ -44,41 +62,34 @@ impl Formatter<'_> {
         }
     }
 
-    /// Refuses a specification that isn't one of a text.
-    fn check_text(&self) -> Result<()>
-        ensures ok { OnOk result (first_failure (text_checks self.now.spec) ≡ None) }
-        ensures err { IfErr result (λ e. (e ≡ FmtError.NoMemory) ⊎ IsFailure (first_failure (text_checks self.now.spec)) e) }
+    /// Why the specification isn't one of a text.
+    fn text_cause(&self) -> Option<Cause>
+        ensures { result ≡ first_failure (text_checks self.now.spec) }
     {
-        let alloc = *self.text.allocator();
         match self.ty {
             None | Some('s') => {}
-            Some(ty) => return Err(types::not_of_texts(alloc, ty)),
+            Some(ty) => return Some(Cause::NotOfTexts(ty)),
         }
         if self.alternate {
-            return Err(FmtError::type_error(
-                alloc,
-                "Alternate form (#) not allowed in string format specifier",
-            ));
+            return Some(Cause::AlternateOfText);
         }
         if self.thousands {
-            return Err(FmtError::type_error(alloc, "Cannot specify ',' with 's'"));
+            return Some(Cause::CommaOfText);
         }
         if !self.sign.is_unspecified() {
-            return Err(FmtError::type_error(alloc, "Sign not allowed in string format specifier"));
+            return Some(Cause::SignOfText);
         }
-        Ok(())
+        None
     }
 
-    /// Appends a text as its field, with `Left` as the default alignment.
+    /// Appends a text as its field; an unspecified alignment becomes `Left`.
     pub fn str(&mut self, s: &str) -> Result<()>
-        ensures ok { OnOk result (IsAppended (text_field self.old.spec s.now) (view_aligned Alignment.Left self.old) self.new) }
-        ensures err { IfErr result (λ e. (e ≡ FmtError.NoMemory) ⊎ IsRefusal (text_field self.old.spec s.now) e) }
-        ensures same { OnErr result (self.new ≡ view_aligned Alignment.Left self.old) }
+        ensures { Appends (text_field self.old.spec s.now) (view_aligned Alignment.Left self.old) result self.new }
     {
         self.set_default_align(Alignment::Left);
-        match self.check_text() {
-            Ok(()) => self.str_unchecked(s),
-            Err(error) => Err(error),
+        match self.text_cause() {
+            None => self.str_unchecked(s),
+            Some(cause) => Err(cause.told(*self.text.allocator())),
         }
     }
 }
@@ -86,44 +97,21 @@ impl Formatter<'_> {
 /// Fills a text's patterns by calls of a closure, from left to right.
 ///
 /// `f` gets each pattern as a formatter without text; where it answers Ok, the text that the formatter then holds
-/// stands in the place of the pattern. The first fault from the left is the answer: of a brace, of a pattern, or of `f`.
+/// stands in the place of the pattern. The first fault from the left is the answer: of a brace, of a pattern, or of
+/// `f`, which isn't called after it. `Template` fills one text many times.
 pub fn strfmt_map<F>(alloc: Global, fmtstr: &str, mut f: F) -> Result<String>
 where
     F: FnMut(&mut Formatter<'_>) -> Result<()>,
     requires { F.IsAlwaysCallable f }
-    ensures ok { IfOk result (λ text. IsWalk F.FnMut f fmtstr.now (Ok (string_bytes text))) }
-    ensures err { IfErr result (λ e. (e ≡ FmtError.NoMemory) ⊎ IsWalk F.FnMut f fmtstr.now (Err e)) }
+    ensures ok { IfOk result (λ text. (last : F) × IsWalk F.FnMut f fmtstr.now (Ok (string_bytes text)) last) }
+    ensures err { IfErr result (λ e. (e ≡ FmtError.NoMemory) ⊎ ((last : F) × IsWalk F.FnMut f fmtstr.now (Err e) last)) }
 {
-    let mut out = String::new(alloc);
-    let mut rest = fmtstr;
-    'pieces: loop {
-        let (plain, tail) = split_plain(rest);
-        if out.push_str(plain).is_err() {
-            return Err(FmtError::NoMemory);
-        }
-        match look(tail) {
-            Next::End => return Ok(out),
-            Next::Escape(brace, after) => {
-                if out.push(brace).is_err() {
-                    return Err(FmtError::NoMemory);
-                }
-                rest = after;
-            }
-            Next::Pattern(inner, after) => {
-                let mut formatter = match Formatter::from_str(alloc, inner) {
-                    Ok(formatter) => formatter,
-                    Err(error) => return Err(error),
-                };
-                match f(&mut formatter) {
-                    Ok(()) => {}
-                    Err(error) => return Err(error),
-                }
-                if out.push_str(formatter.text()).is_err() {
-                    return Err(FmtError::NoMemory);
-                }
-                rest = after;
-            }
-            Next::Wrong(message) => return Err(FmtError::invalid(alloc, message)),
-        }
+    let Ok(template) = Template::new(alloc, fmtstr) else {
+        return Err(FmtError::NoMemory);
+    };
+    let mut text = String::new(alloc);
+    match template.fill(alloc, &mut text, &mut f) {
+        Ok(()) => Ok(text),
+        Err(error) => Err(error),
     }
 }

@@ -1,14 +1,13 @@
 // A formatter: one pattern with its key and its specification, and the text that fills it.
 
-ghost use Rattle.std.specs.Prelude.{◌≡◌, ◌++◌, ◌⊎◌, ◌==◌, [], true, None, OnOk, OnErr, IfOk, IfErr};
-ghost use Rattle.std.specs.List.{after_first};
-ghost use Rattle.strfmt.specs.Fault.{IsRefusal, IsFailure, first_failure};
-ghost use Rattle.strfmt.specs.Pattern.{checks_of, is_too_large, key_of, read_pattern, read_spec, spec_of, type_checks};
-ghost use Rattle.strfmt.specs.Piece.{spelling, pattern};
-ghost use Rattle.strfmt.specs.Spec.{view_aligned, is_integer_type, is_float_type, is_plus, is_minus};
+ghost use Rattle.std.specs.Prelude.{◌≡◌, ◌++◌, ◌∷◌, [], codes};
+ghost use Rattle.strfmt.specs.Fault.{first_failure};
+ghost use Rattle.strfmt.specs.Pattern.{IsRead, Reads, checks_of, first_cause, is_too_large, key_of, spec_of, specification_of, type_checks};
+ghost use Rattle.strfmt.specs.Spec.{Appends, is_float_type, is_integer_type, is_minus, is_plus, view_aligned};
 
+use crate::cause::Cause;
 use crate::parts::{self, Parts};
-use crate::{Alignment, FmtError, Result, Sign, types};
+use crate::{Alignment, FmtError, Result, Sign};
 use std::alloc::Global;
 use std::marker::Model;
 
@@ -66,57 +65,60 @@ fn is_too_large(number: Option<usize>) -> bool
     }
 }
 
-/// Refuses a byte that is no type, and a comma beside a type that it doesn't go with.
-fn check_type(alloc: Global, ty: u8, thousands: bool) -> Result<()>
-    ensures ok { OnOk result (first_failure (type_checks true ty thousands) ≡ None) }
-    ensures err { IfErr result (λ e. (e ≡ FmtError.NoMemory) ⊎ IsFailure (first_failure (type_checks true ty thousands)) e) }
+/// Why a byte that is left is no type, or why a comma doesn't go with it.
+fn type_cause(ty: u8, thousands: bool) -> Option<Cause>
+    ensures { result ≡ first_failure (type_checks thousands (ty ∷ [])) }
 {
     if !b"boxXeEfF%s?".contains(&ty) {
-        return Err(types::bad_type(alloc, ty));
+        return Some(Cause::BadType(char::from(ty)));
     }
     if thousands && b"boxXs?".contains(&ty) {
-        return Err(types::bad_comma(alloc, ty));
+        return Some(Cause::BadComma(char::from(ty)));
     }
-    Ok(())
+    None
 }
 
-/// Refuses what a specification may not be, from left to right.
-fn check(alloc: Global, parts: &Parts<'_>) -> Result<()>
-    ensures ok { OnOk result (first_failure (checks_of parts.now) ≡ None) }
-    ensures err { IfErr result (λ e. (e ≡ FmtError.NoMemory) ⊎ IsFailure (first_failure (checks_of parts.now)) e) }
+/// Why the bytes that are left are no type.
+fn left_cause(left: &[u8], thousands: bool) -> Option<Cause>
+    ensures { result ≡ first_failure (type_checks thousands left.now) }
+{
+    match left.split_first() {
+        None => None,
+        Some((ty, more)) if more.is_empty() => type_cause(*ty, thousands),
+        Some(_) => Some(Cause::LongType),
+    }
+}
+
+/// Why a specification is refused, from left to right.
+fn parts_cause(parts: &Parts<'_>) -> Option<Cause>
+    ensures { result ≡ first_failure (checks_of parts.now) }
 {
     if is_too_large(parts.width) {
-        return Err(FmtError::invalid(alloc, "overflow error when parsing width"));
+        return Some(Cause::GreatWidth);
     }
     if parts.dot && parts.precision.is_none() {
-        return Err(FmtError::invalid(alloc, "Format specifier missing precision"));
+        return Some(Cause::NoPrecision);
     }
     if is_too_large(parts.precision) {
-        return Err(FmtError::invalid(alloc, "overflow error when parsing precision"));
+        return Some(Cause::GreatPrecision);
     }
-    match parts.left {
-        [] => Ok(()),
-        [ty] => check_type(alloc, *ty, parts.thousands),
-        _ => Err(FmtError::invalid(alloc, "Invalid format specifier")),
-    }
+    left_cause(parts.left, parts.thousands)
 }
 
-/// The parts of a specification, whose numbers fit.
-fn read(alloc: Global, specification: &str) -> Result<Parts<'_>>
-    ensures ok { IfOk result (λ parts. read_spec specification.now ≡ Ok (spec_of parts)) }
-    ensures err { IfErr result (λ e. (e ≡ FmtError.NoMemory) ⊎ IsRefusal (read_spec specification.now) e) }
+/// Why a key with the parts of a specification is refused.
+fn first_cause(key: &str, parts: &Parts<'_>) -> Option<Cause>
+    ensures { result ≡ first_cause key.now parts.now }
 {
-    let parts = parts::parse(specification);
-    match check(alloc, &parts) {
-        Ok(()) => Ok(parts),
-        Err(error) => Err(error),
+    if key.is_empty() {
+        return Some(Cause::NoKey);
     }
+    parts_cause(parts)
 }
 
 /// The key of a pattern, and its specification, which may be empty.
 fn split(pattern: &str) -> (&str, &str)
     ensures key { result.0.now ≡ key_of pattern.now }
-    ensures specification { result.1.now ≡ after_first (λ b. b == 58) pattern.now }
+    ensures specification { result.1.now ≡ specification_of pattern.now }
 {
     pattern.split_once(':').unwrap_or((pattern, ""))
 }
@@ -149,20 +151,46 @@ impl<'a> Formatter<'a> {
         }
     }
 
+    /// Reads a pattern, or tells why it is refused.
+    pub(crate) fn read(alloc: Global, pattern: &'a str) -> std::result::Result<Formatter<'a>, Cause>
+        ensures { IsRead pattern.now result }
+    {
+        let (key, specification) = split(pattern);
+        let parts = parts::parse(specification);
+        match first_cause(key, &parts) {
+            None => Ok(Formatter::from_parts(alloc, key, pattern, parts)),
+            Some(cause) => Err(cause),
+        }
+    }
+
     /// Reads a pattern, which stands between two braces of a text: a key, and after a `:` a specification.
     ///
     /// `Invalid` and `TypeError` tell the first fault.
     pub fn from_str(alloc: Global, s: &'a str) -> Result<Formatter<'a>>
-        ensures ok { IfOk result (λ f. read_pattern s.now ≡ Ok f) }
-        ensures err { IfErr result (λ e. (e ≡ FmtError.NoMemory) ⊎ IsRefusal (read_pattern s.now) e) }
+        ensures { Reads s.now result }
     {
-        let (key, specification) = split(s);
-        if key.is_empty() {
-            return Err(FmtError::invalid(alloc, "must specify identifier"));
+        match Formatter::read(alloc, s) {
+            Ok(formatter) => Ok(formatter),
+            Err(cause) => Err(cause.told(alloc)),
         }
-        match read(alloc, specification) {
-            Ok(parts) => Ok(Formatter::from_parts(alloc, key, s, parts)),
-            Err(error) => Err(error),
+    }
+
+    /// The same pattern without text.
+    pub(crate) fn fresh(&self, alloc: Global) -> Formatter<'a>
+        ensures { result ≡ record self.now { text = [] } }
+    {
+        Formatter {
+            key: self.key,
+            pattern: self.pattern,
+            fill: self.fill,
+            align: self.align(),
+            sign: self.sign(),
+            alternate: self.alternate,
+            width: self.width,
+            thousands: self.thousands,
+            precision: self.precision,
+            ty: self.ty,
+            text: String::new(alloc),
         }
     }
 
@@ -173,6 +201,7 @@ impl<'a> Formatter<'a> {
         self.fill
     }
 
+    /// Where the text stands within the width.
     pub fn align(&self) -> Alignment
         ensures { result ≡ self.now.spec.align }
     {
@@ -206,6 +235,7 @@ impl<'a> Formatter<'a> {
         self.precision
     }
 
+    /// The sign that is asked for.
     pub fn sign(&self) -> Sign
         ensures { result ≡ self.now.spec.sign }
     {
@@ -217,12 +247,14 @@ impl<'a> Formatter<'a> {
         }
     }
 
+    /// Whether a `+` was given.
     pub fn sign_plus(&self) -> bool
         ensures { result ≡ is_plus self.now.spec.sign }
     {
         matches!(self.sign, Sign::Plus)
     }
 
+    /// Whether a `-` was given.
     pub fn sign_minus(&self) -> bool
         ensures { result ≡ is_minus self.now.spec.sign }
     {
@@ -236,7 +268,7 @@ impl<'a> Formatter<'a> {
         self.alternate
     }
 
-    /// The type.
+    /// The type, one character of `boxXeEfF%s?`.
     pub fn ty(&self) -> Option<char>
         ensures { result ≡ self.now.spec.ty }
     {
@@ -266,6 +298,7 @@ impl<'a> Formatter<'a> {
         }
     }
 
+    /// Sets the precision, in characters; None cuts nothing.
     pub fn set_precision(&mut self, precision: Option<usize>)
         ensures { self.new ≡ record self.old { spec = record self.old.spec { precision = precision } } }
     {
@@ -274,9 +307,7 @@ impl<'a> Formatter<'a> {
 
     /// Appends to the text, without padding.
     pub fn write_str(&mut self, s: &str) -> Result<()>
-        ensures ok { OnOk result (self.new ≡ record self.old { text = self.old.text ++ s.now }) }
-        ensures err { IfErr result (λ e. e ≡ FmtError.NoMemory) }
-        ensures same { OnErr result (self.new ≡ self.old) }
+        ensures { Appends (Ok s.now) self.old result self.new }
     {
         self.text.push_str(s).map_err(|_| FmtError::NoMemory)
     }
@@ -290,12 +321,12 @@ impl<'a> Formatter<'a> {
 
     /// Writes the pattern as it stands in the text, in its braces.
     pub fn skip(&mut self) -> Result<()>
-        ensures ok { OnOk result (self.new ≡ record self.old { text = self.old.text ++ spelling (pattern self.old.pattern) }) }
-        ensures err { IfErr result (λ e. e ≡ FmtError.NoMemory) }
-        ensures same { OnErr result (self.new ≡ self.old) }
+        ensures { Appends (Ok (codes "{" ++ self.old.pattern ++ codes "}")) self.old result self.new }
     {
         let size = self.pattern.len().saturating_add(2);
-        self.text.reserve(size).map_err(|_| FmtError::NoMemory)?;
+        if self.text.reserve(size).is_err() {
+            return Err(FmtError::NoMemory);
+        }
         self.text.push('{').unwrap();
         self.text.push_str(self.pattern).unwrap();
         self.text.push('}').unwrap();

@@ -1,6 +1,7 @@
 //! Brace formats, filled from a map or by a closure.
 #![tactic(auto)]
 
+mod cause;
 mod cutting;
 mod display;
 mod fmtnum;
@@ -9,14 +10,15 @@ mod formatter;
 mod key;
 mod law;
 mod map;
-mod padding;
 mod parts;
+mod template;
 mod types;
 
 pub use display::DisplayStr;
 pub use fmtstr::strfmt_map;
 pub use formatter::Formatter;
 pub use key::FromKey;
-pub use law::{field_fills_width, text_prints_once};
+pub use law::{field_fills_width, pattern_reads_once, text_prints_once};
 pub use map::{Format, strfmt};
+pub use template::Template;
 pub use types::{Alignment, FmtError, Result, Sign};

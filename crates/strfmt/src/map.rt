@@ -1,12 +1,11 @@
 // A text filled from a map.
 
-ghost use Rattle.std.specs.Prelude.{◌≡◌, ◌⊎◌, Ok, Err, IfOk, IfErr, option_copied, string_bytes};
+ghost use Rattle.std.specs.Prelude.{◌≡◌, IfOk, option_copied, string_bytes};
 ghost use Rattle.std.specs.HashMap.{get_by};
-ghost use Rattle.strfmt.specs.Fault.{Fault, IsFault};
-ghost use Rattle.strfmt.specs.Text.{Prints, filled_by};
+ghost use Rattle.strfmt.specs.Text.{IsPrinted, filled_by};
 ghost use Rattle.strfmt.specs.Values.{Displays, values};
 
-use crate::types::no_value;
+use crate::cause::no_value;
 use crate::{DisplayStr, FmtError, Formatter, FromKey, Result, strfmt_map};
 use numerals::NoMemory;
 use std::alloc::Global;
@@ -34,7 +33,7 @@ fn fill<K: Hash + Eq + FromKey, D: DisplayStr>(
     vars: &HashMap<K, D>,
     f: &mut Formatter<'_>,
 ) -> Result<()>
-    ensures { Displays (filled_by (values K.spells D.meaning vars.now f.old.key) f.old) result f.old f.new }
+    ensures { Displays (filled_by (values K.spells D.meaning vars.now f.old.key) f.old) f.old result f.new }
 {
     match look_up(alloc, vars, f.key) {
         Ok(Some(value)) => value.display_str(f),
@@ -52,14 +51,13 @@ pub fn strfmt<K: Hash + Eq + FromKey, T: DisplayStr>(
     fmtstr: &str,
     vars: &HashMap<K, T>,
 ) -> Result<String>
-    ensures ok { IfOk result (λ text. Prints (values K.spells T.meaning vars.now) fmtstr.now (Ok (string_bytes text))) }
-    ensures err { IfErr result (λ e. (e ≡ FmtError.NoMemory) ⊎ ((fault : Fault) × Prints (values K.spells T.meaning vars.now) fmtstr.now (Err fault) × IsFault e fault)) }
+    ensures { IsPrinted string_bytes (values K.spells T.meaning vars.now) fmtstr.now result }
 {
     strfmt_map(
         alloc,
         fmtstr,
         |f: &mut Formatter<'_>| -> Result<()>
-            ensures { Displays (filled_by (values K.spells T.meaning vars.entry.now f.old.key) f.old) result f.old f.new }
+            ensures { Displays (filled_by (values K.spells T.meaning vars.entry.now f.old.key) f.old) f.old result f.new }
         { fill(alloc, vars, f) },
     )
 }
@@ -77,8 +75,7 @@ pub trait Format {
         alloc: Global,
         vars: &HashMap<K, D>,
     ) -> Result<String>
-        ensures ok { IfOk result (λ text. Prints (values K.spells D.meaning vars.now) (template self.now) (Ok (string_bytes text))) }
-        ensures err { IfErr result (λ e. (e ≡ FmtError.NoMemory) ⊎ ((fault : Fault) × Prints (values K.spells D.meaning vars.now) (template self.now) (Err fault) × IsFault e fault)) };
+        ensures { IsPrinted string_bytes (values K.spells D.meaning vars.now) (template self.now) result };
 }
 
 impl Format for &str {

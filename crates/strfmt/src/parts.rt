@@ -1,7 +1,8 @@
 // A specification as it is written, cut into its parts.
 
-ghost use Rattle.std.specs.Prelude.{◌≡◌, ◌<◌, MatchOption};
-ghost use Rattle.strfmt.specs.Parts.{flag, sign_of, sign_part, alignment_of, alignment_part, first_char, filled_part, aligned_part, zero_part, number_part, precision_part, parts_of, capped, capped_number};
+ghost use Rattle.std.specs.Prelude.{◌≡◌, ◌++◌, ◌<◌, ℕ, Option, Some, MatchOption, encode_utf8, length};
+ghost use Rattle.strfmt.specs.Inner.Reading.{capped, capped_number};
+ghost use Rattle.strfmt.specs.Parts.{HasNoFill, IsFilled, IsFlag, IsMark, IsNumber, IsPrecision, IsWritten, IsZero, Parts as WrittenParts, alignment_of, sign_of};
 
 use crate::{Alignment, Sign};
 use std::marker::Model;
@@ -43,12 +44,12 @@ impl<'a> Model for Parts<'a> {
 /// An optional byte, and the bytes after it.
 fn flag(text: &[u8], byte: u8) -> (bool, &[u8])
     requires { 0 < byte }
-    ensures value { result.0 ≡ (flag byte text.now).value }
-    ensures rest { result.1.now ≡ (flag byte text.now).rest }
+    ensures { IsFlag byte text.now result.0 result.1.now }
 {
     match text.split_first() {
         Some((first, rest)) if *first == byte => (true, rest),
-        _ => (false, text),
+        Some(_) => (false, text),
+        None => (false, text),
     }
 }
 
@@ -65,17 +66,16 @@ fn alignment_of(byte: u8) -> Option<Alignment>
 }
 
 /// An optional alignment, and the bytes after it.
-#[tactic(auto, unfolding(crate::specs::Parts::alignment_part))]
 fn alignment(text: &[u8]) -> (Option<Alignment>, &[u8])
-    ensures value { result.0 ≡ (alignment_part text.now).value }
-    ensures rest { result.1.now ≡ (alignment_part text.now).rest }
+    ensures { IsMark alignment_of text.now result.0 result.1.now }
 {
-    if let Some((first, rest)) = text.split_first() {
-        if let Some(align) = alignment_of(*first) {
-            return (Some(align), rest);
-        }
+    match text.split_first() {
+        Some((first, rest)) => match alignment_of(*first) {
+            Some(align) => (Some(align), rest),
+            None => (None, text),
+        },
+        None => (None, text),
     }
-    (None, text)
 }
 
 fn sign_of(byte: u8) -> Option<Sign>
@@ -90,22 +90,21 @@ fn sign_of(byte: u8) -> Option<Sign>
 }
 
 /// An optional sign, and the bytes after it.
-#[tactic(auto, unfolding(crate::specs::Parts::sign_part))]
 fn sign(text: &[u8]) -> (Option<Sign>, &[u8])
-    ensures value { result.0 ≡ (sign_part text.now).value }
-    ensures rest { result.1.now ≡ (sign_part text.now).rest }
+    ensures { IsMark sign_of text.now result.0 result.1.now }
 {
-    if let Some((first, rest)) = text.split_first() {
-        if let Some(sign) = sign_of(*first) {
-            return (Some(sign), rest);
-        }
+    match text.split_first() {
+        Some((first, rest)) => match sign_of(*first) {
+            Some(sign) => (Some(sign), rest),
+            None => (None, text),
+        },
+        None => (None, text),
     }
-    (None, text)
 }
 
 /// The first character, and the text after it.
 fn first_char(text: &str) -> Option<(char, &str)>
-    ensures { MatchOption result ((filled_part text.now).value ≡ None) (λ x. first_char text.now ≡ record { value = x.0; rest = x.1.now }) }
+    ensures { MatchOption result (length text.now ≡ 0) (λ x. text.now ≡ encode_utf8 x.0 ++ x.1.now) }
 {
     let mut chars = text.chars();
     let first = chars.next()?;
@@ -114,7 +113,7 @@ fn first_char(text: &str) -> Option<(char, &str)>
 
 /// A fill with an alignment after it, and the bytes after them.
 fn fill_then_alignment(text: &str) -> Option<(char, Alignment, &[u8])>
-    ensures { MatchOption result ((filled_part text.now).value ≡ None) (λ x. ((first_char text.now).value ≡ x.0) × ((filled_part text.now).value ≡ Some x.1) × ((filled_part text.now).rest ≡ x.2.now)) }
+    ensures { MatchOption result (HasNoFill text.now) (λ x. IsFilled text.now (Some x.0) (Some x.1) x.2.now) }
 {
     let (fill, after) = first_char(text)?;
     match alignment(after.as_bytes()) {
@@ -124,11 +123,8 @@ fn fill_then_alignment(text: &str) -> Option<(char, Alignment, &[u8])>
 }
 
 /// A fill with an alignment after it, or an alignment alone, and the bytes after them.
-#[tactic(auto, unfolding(crate::specs::Parts::aligned_part))]
 fn fill_and_alignment(text: &str) -> (Option<char>, Option<Alignment>, &[u8])
-    ensures fill { result.0 ≡ (aligned_part text.now).value.fill }
-    ensures align { result.1 ≡ (aligned_part text.now).value.align }
-    ensures rest { result.2.now ≡ (aligned_part text.now).rest }
+    ensures { IsFilled text.now result.0 result.1 result.2.now }
 {
     if let Some((fill, align, rest)) = fill_then_alignment(text) {
         return (Some(fill), Some(align), rest);
@@ -139,24 +135,21 @@ fn fill_and_alignment(text: &str) -> (Option<char>, Option<Alignment>, &[u8])
 
 /// A zero flag, which there is only where no fill stands.
 fn zero_flag(fill: Option<char>, text: &[u8]) -> (bool, &[u8])
-    ensures value { result.0 ≡ (zero_part fill text.now).value }
-    ensures rest { result.1.now ≡ (zero_part fill text.now).rest }
+    ensures { IsZero fill text.now result.0 result.1.now }
 {
-    if fill.is_none() {
-        flag(text, b'0')
-    } else {
-        (false, text)
+    match fill {
+        Some(_) => (false, text),
+        None => flag(text, b'0'),
     }
 }
 
 /// An optional number in decimal digits, and the bytes after it.
 fn number(text: &[u8]) -> (Option<usize>, &[u8])
-    ensures value { result.0 ≡ capped_number (number_part text.now).value }
-    ensures rest { result.1.now ≡ (number_part text.now).rest }
+    ensures { (n : Option ℕ) × IsNumber text.now n result.1.now × (result.0 ≡ capped_number n) }
 {
     let mut value: Option<usize> = None;
     let mut rest = text;
-    while let Some((first, tail)) = rest.split_first() {
+    'digits: while let Some((first, tail)) = rest.split_first() {
         if !first.is_ascii_digit() {
             break;
         }
@@ -169,15 +162,14 @@ fn number(text: &[u8]) -> (Option<usize>, &[u8])
 
 /// The number after a dot.
 fn number_after(dot: bool, text: &[u8]) -> (Option<usize>, &[u8])
-    ensures value { result.0 ≡ capped_number (precision_part dot text.now).value }
-    ensures rest { result.1.now ≡ (precision_part dot text.now).rest }
+    ensures { (n : Option ℕ) × IsPrecision dot text.now n result.1.now × (result.0 ≡ capped_number n) }
 {
     if dot { number(text) } else { (None, text) }
 }
 
 /// Cuts a specification into its parts.
 pub(crate) fn parse(text: &str) -> Parts<'_>
-    ensures { result ≡ capped (parts_of text.now) }
+    ensures { (written : WrittenParts) × IsWritten text.now written × (result ≡ capped written) }
 {
     let (fill, align, rest) = fill_and_alignment(text);
     let (sign, rest) = sign(rest);

@@ -1,7 +1,7 @@
 // When `strfmt_map` calls its closure.
 use std::alloc::{AllocError, Global};
 use std::test::Fail;
-use strfmt::{FmtError, Formatter, Result, strfmt_map};
+use strfmt::{DisplayStr, FmtError, Formatter, Result, Template, strfmt_map};
 
 /// The keys of the patterns at which the closure was called, one after the other; it refuses the pattern of the key `r`.
 fn keys_called(
@@ -55,6 +55,43 @@ fn once_a_pattern_up_to_the_first_fault(rt: HostRuntime) -> std::result::Result<
         let (called, answer) = keys_called(alloc, template)?;
         assert!(rt; called.as_str() == keys, "{template}");
         assert!(rt; answer.is_ok() == succeeds, "{template}");
+    }
+    Ok(())
+}
+
+#[test]
+fn a_template_is_filled_many_times(rt: HostRuntime) -> std::result::Result<(), Fail> {
+    let alloc = rt.alloc();
+    let template = Template::new(alloc, "{n:>3}|{n:x}{{")?;
+    let mut out = String::new(alloc);
+    for (number, want) in [
+        (7u8, "  7|7{"),
+        (200u8, "  7|7{200|c8{"),
+    ] {
+        template.fill(
+            alloc,
+            &mut out,
+            &mut |f: &mut Formatter<'_>| number.display_str(f),
+        )?;
+        assert!(rt; out.as_str() == want);
+    }
+    assert!(rt; template.text() == "{n:>3}|{n:x}{{");
+    Ok(())
+}
+
+#[test]
+fn a_refused_filling_leaves_the_text(rt: HostRuntime) -> std::result::Result<(), Fail> {
+    let alloc = rt.alloc();
+    let mut out = String::from_str(alloc, "before é")?;
+    for text in ["é{a}{b:x}", "é{a}}", "é{a:k}"] {
+        let template = Template::new(alloc, text)?;
+        let answer = template.fill(
+            alloc,
+            &mut out,
+            &mut |f: &mut Formatter<'_>| f.str("é"),
+        );
+        assert!(rt; answer.is_err(), "{text}");
+        assert!(rt; out.as_str() == "before é", "{text}");
     }
     Ok(())
 }

@@ -62,6 +62,14 @@ const INTEGERS: &str = "\
 1|{x:99999999999999999999}|Invalid|overflow error when parsing width|
 ";
 
+const CHARACTERS: &str = "\
+é|{x:*^5}|Ok|**é**|
+é|{x:.0}|Ok||
+日|{x:s}|Ok|日|
+x|{x:x}|TypeError|Unknown format code Some('x') for object of type 'str'|
+x|{x:=3}|Invalid|sign aware zero padding and Align '=' not yet supported|
+";
+
 /// The number stands at the key 1.
 const NUMBERED: &str = "\
 9|<{1}>|Ok|<9>|
@@ -151,6 +159,18 @@ fn integers_are_printed(rt: HostRuntime) -> std::result::Result<(), Fail> {
     'rows: for line in INTEGERS.lines() {
         let row = read_row(line).expect(&rt, line);
         let value = row.value.parse::<i32>().expect(&rt, line);
+        let vars = map_of(alloc, String::from_str(alloc, "x")?, value)?;
+        assert_row(&rt, &strfmt(alloc, row.template, &vars), &row);
+    }
+    Ok(())
+}
+
+#[test]
+fn characters_are_printed(rt: HostRuntime) -> std::result::Result<(), Fail> {
+    let alloc = rt.alloc();
+    'rows: for line in CHARACTERS.lines() {
+        let row = read_row(line).expect(&rt, line);
+        let value = row.value.chars().next().expect(&rt, line);
         let vars = map_of(alloc, String::from_str(alloc, "x")?, value)?;
         assert_row(&rt, &strfmt(alloc, row.template, &vars), &row);
     }

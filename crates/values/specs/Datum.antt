@@ -1,5 +1,5 @@
 -- Values as plain data, and what they are to a printf format.
-use Rattle.std.specs.Prelude.{ℕ, ℤ, ◌^◌, ◌<◌, List, FitsSigned, IsUtf8, None, Err, string_bytes, ⊤}
+use Rattle.std.specs.Prelude.{ℕ, ℤ, ◌^◌, ◌<◌, List, FitsSigned, IsUtf8, None, Err, string_bytes}
 use Rattle.std.specs.Char.{IsScalar}
 use mir.Syntax.{w8, w16, w32, w64}
 use Rattle.sprintf.specs.declared.PrintfError.TheVariants.{WrongType}

@@ -1,5 +1,5 @@
 -- The kinds, and the words that name them.
-use Rattle.std.specs.Prelude.{◌≡◌, ◌≢◌, ◌+◌, ℕ, List, ◌∷◌, ◌++◌, All, map, length, codes}
+use Rattle.std.specs.Prelude.{◌≡◌, ◌≢◌, ◌+◌, ℕ, List, ◌∷◌, ◌++◌, map, length, codes}
 use Rattle.values.specs.declared.kind.Kind.{Kind}
 use Rattle.values.specs.declared.kind.Kind.TheVariants.{U8, U16, U32, U64, Usize, I8, I16, I32, I64, Isize, Word, Char}
 use Rattle.values.specs.declared.kind.KindsError.{KindsError}

@@ -1,15 +1,15 @@
 -- The words of the lines ahead, line by line.
-use Rattle.std.proofs.Common.{◌≡◌, ◌<◌, ◌+◌, ◌==◌, ◌||◌, ℕ, true, false, not, cond, nat_le, List, [], ◌∷◌, ◌++◌, length, take, get_or, inl, inr, refl, sym, ◌∙◌, ap, subst, arith, append_assoc, length-append}
+use Rattle.std.proofs.Common.{◌≡◌, ◌<◌, ◌+◌, ◌==◌, ◌||◌, ℕ, true, false, cond, nat_le, List, [], ◌∷◌, ◌++◌, length, take, inl, inr, refl, sym, ◌∙◌, ap, arith, append_assoc, length-append}
 use Rattle.std.specs.Prelude.{filter}
 use Rattle.std.specs.Str.{IsUtf8, is_utf8}
 use Rattle.std.proofs.lemmas.Grind.{common_steps}
-use Rattle.std.proofs.lemmas.Bool.{leb-true, le-leb, cond-true, cond-false, not-true}
-use Rattle.std.proofs.lemmas.Str.{IsUtf8-take, is_utf8-from_IsUtf8, IsCharBoundary-before_ascii}
-use Rattle.std.proofs.Math.Seq.{take-append_seam, take-append-add}
+use Rattle.std.proofs.lemmas.Bool.{leb-true, le-leb, cond-true, cond-false}
+use Rattle.std.proofs.lemmas.Str.{is_utf8-from_IsUtf8}
+use Rattle.std.proofs.Math.Seq.{take-append-add}
 use Rattle.whiteread.specs.Words.{Words, words, pieces, onto_first, is_blank, is_filled}
 use Rattle.whiteread.specs.Lines.Laws.{BeginsLines, first_line, feed_off, no_feed_off}
 use Rattle.whiteread.specs.Lines.{lines_of, line_feed, up_to_last_feed, has_feed, HasNoFeed, IsFirstLine, without_feed}
-use Rattle.whiteread.specs.Inner.WordProofs.{Test, pass-head, pass-tail, pieces-blank}
+use Rattle.whiteread.specs.Inner.WordProofs.{Test, pieces-blank}
 use Rattle.whiteread.specs.Inner.ReaderProofs.{none_whole}
 use Rattle.whiteread.specs.ReaderState.ReaderWords.{words_of_lines, whole_within}
 

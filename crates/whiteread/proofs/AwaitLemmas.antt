@@ -1,17 +1,18 @@
 -- The reading of a line, step by step.
-use Rattle.std.proofs.Common.{◌≡◌, ◌≤◌, ◌<◌, ◌+◌, ◌-◌, ℕ, Bool, true, false, max, List, [], ◌∷◌, ◌++◌, length, drop, take, Option, Some, None, Result, Ok, Err, refl, sym, ◌∙◌, ap, subst, inl, inr, ◌⊎◌, ⊎_elim, arith, add-zero, append-nil, append_assoc, get_or, not, ◌==◌, length-append, length-drop, take_all}
-use Rattle.std.specs.Prelude.{IsUtf8, IsCharBoundary, if◌then◌else◌}
-use Rattle.std.proofs.lemmas.Str.{IsCharBoundary-start}
+use Rattle.std.proofs.Common.{◌≡◌, ◌≤◌, ◌<◌, ◌+◌, ◌-◌, ℕ, Bool, true, false, List, [], ◌∷◌, ◌++◌, length, drop, take, Option, Some, None, Result, Ok, Err, refl, sym, ◌∙◌, ap, subst, inl, inr, ◌⊎◌, ⊎_elim, arith, add-zero, append-nil, append_assoc, get_or, not, ◌==◌, length-append, length-drop, take_all}
+use Rattle.std.specs.Prelude.{IsUtf8, IsCharBoundary, MatchBool}
+use Rattle.std.proofs.lemmas.Str.{IsCharBoundary-start, IsUtf8-nil}
 use Rattle.std.proofs.lemmas.List.Elements.{All-drop}
 use Rattle.std.specs.Io.KnownBytes.{IsAtEnd}
 use Rattle.std.proofs.lemmas.Bool.{false≢true}
 use Rattle.std.proofs.lemmas.List.{drop_all, get_or_append_left}
 use Rattle.std.proofs.Math.Seq.{take-append_seam}
+use Rattle.edge_io.specs.Ends.{Rises}
 use Rattle.edge_io.specs.Supply.{Supply, Gave}
 use Rattle.edge_io.specs.Supply.Laws.{gave_none, gave_more}
 use Rattle.whiteread.specs.Lines.{HasNoFeed, IsWhole, line_feed}
-use Rattle.whiteread.specs.Stream.{CountsNext}
-use Rattle.whiteread.specs.ReaderState.{reader_source, reader_taken, reader_past, reader_waiting, reader_faults, ShowsSame}
+use Rattle.whiteread.specs.Stream.{CountsNext, OneRises}
+use Rattle.whiteread.specs.ReaderState.{reader_source, reader_taken, reader_past, reader_waiting, reader_faults, fault_counts, ShowsSame}
 use Rattle.whiteread.specs.LineCall.{Waits, MeetsEnd, PassesLimit, probe_len}
 use Rattle.whiteread.specs.Inner.LineSteps.{KeepsLine, AwaitRefusal, StepCall, PieceCall, AwaitCall}
 use Rattle.whiteread.specs.declared.reader.Reader.{Reader}
@@ -225,14 +226,18 @@ pub no_feed_rest : (xs : List ℕ) (len : ℕ) (ys : List ℕ) → ys ≡ drop l
 no_feed_rest xs len ys is none = subst HasNoFeed (sym is) (All-drop (λ byte. not (byte == line_feed) ≡ true) len xs none)
 
 -- a text that was put at the end of an empty one may be cut at its start
-pub text_pushed : (b : Bool) (new old text front : List ℕ) (passed : ℕ) → new ≡ (if b then old ++ text else old) → old ≡ [] → text ≡ front → IsUtf8 front → passed ≡ 0 → IsCharBoundary new passed
-text_pushed true new old text front passed is empty same utf8 none =
-    let e : new ≡ front = is ∙ ap (λ l. l ++ text) empty ∙ same in
-    subst (λ (n : ℕ). IsCharBoundary new n) (sym none) (IsCharBoundary-start new (subst IsUtf8 (sym e) utf8))
-text_pushed false new old text front passed is empty same utf8 none =
-    let e : new ≡ [] = is ∙ empty in
-    let long = ap length e in
-    (omega arith, λ lt. absurd (omega arith))
+pub boundary_taken : (is_text : Bool) (line text : List ℕ) (passed : ℕ) → MatchBool is_text (line ≡ text) (line ≡ []) → (is_text ≡ true → IsUtf8 text) → passed ≡ 0 → IsCharBoundary line passed
+boundary_taken true line text passed is utf8 none = subst (IsCharBoundary line) (sym none) (IsCharBoundary-start line (subst IsUtf8 (sym is) (utf8 refl)))
+boundary_taken false line text passed is utf8 none = subst (IsCharBoundary line) (sym none) (IsCharBoundary-start line (subst IsUtf8 (sym is) IsUtf8-nil))
+
+-- the byte past the limit was met once more, and no other fault
+pub too_long_rose : (failed still not_utf8 too_long more : ℕ) → still ≡ failed → Rises too_long more → OneRises TooLong (fault_counts failed not_utf8 too_long) (fault_counts still not_utf8 more)
+too_long_rose failed still not_utf8 too_long more same rose = record { rose = rose; others = others } where
+  others : (other : IoFault) → (other ≡ TooLong → ⊥) → fault_counts still not_utf8 more other ≡ fault_counts failed not_utf8 too_long other
+  others ReadFault ne = same
+  others NotUtf8 ne = refl
+  others TooLong ne = absurd (ne refl)
+  others CannotOpen ne = refl
 
 -- the same lemmas after a search, where the call that is made next says from which state
 

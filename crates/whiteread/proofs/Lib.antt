@@ -1,3 +1,4 @@
+pub mod BufferLemmas
 pub mod RenderedLemmas
 pub mod WordLemmas
 pub mod AheadLemmas

@@ -147,30 +147,13 @@ line_taken supply old {start} {mid} {new} len done take_call call c =
 
 not_taken_outcome : {B T : Type 0} (supply : Supply B) (old start mid new : Reader B) (len : ℕ) (why : Error) → TakeCall {T = T} supply len mid (Err why) new → AwaitCall supply start (Ok (Some len)) mid → Cleared old start
     → LineOutcome supply old (Err why) new
-not_taken_outcome supply old start mid new len (TooShort progress) take_call call c = take_call.outcome
-not_taken_outcome supply old start mid new len Leftovers take_call call c = take_call.outcome
-not_taken_outcome supply old start mid new len ParseError take_call call c = take_call.outcome
-not_taken_outcome supply old start mid new len (IoError ReadFault) take_call call c = absurd take_call.outcome
-not_taken_outcome supply old start mid new len (IoError NotUtf8) take_call call c =
+not_taken_outcome supply old start mid new len why take_call call c =
     let t = take_call.outcome in
     let w = waits_more supply old start mid (waits_cleared supply old start c) call.outcome.0 in
-    let line = take len (reader_waiting mid) in (
-      (line, takes_line supply old start mid new len line w call.outcome.1 c.waiting (sym c.past ∙ call.outcome.2) take_call.source take_call.taken take_call.past t.0 refl, t.1),
-      record { row = t.2.row ∙ ap next_row (call.step.kept.row ∙ c.row); line = t.2.line },
-    )
-not_taken_outcome supply old start mid new len (IoError TooLong) take_call call c = absurd take_call.outcome
-not_taken_outcome supply old start mid new len (IoError CannotOpen) take_call call c = take_call.outcome
-not_taken_outcome {B} supply old start mid new len NoMemory take_call call c =
-    let t = take_call.outcome in
-    let w = waits_more supply old start mid (waits_cleared supply old start c) call.outcome.0 in (
-      record {
-        got = w.got;
-        gave = subst (λ (x : B). Gave supply (reader_source old) x w.got) (sym take_call.source) w.gave;
-        taken = take_call.taken ∙ w.taken;
-        waits = t.0 ∙ w.waits;
-        past = take_call.past ∙ w.past;
-      },
-      record { row = t.1.row ∙ call.step.kept.row ∙ c.row; line = t.1.line },
+    let line = take len (reader_waiting mid) in
+    subst (λ (w : Error). LineOutcome supply old (Err w) new) (sym t.0) (
+      (line, takes_line supply old start mid new len line w call.outcome.1 c.waiting (sym c.past ∙ call.outcome.2) take_call.source take_call.taken take_call.past t.1 refl, t.2),
+      record { row = t.3.row ∙ ap next_row (call.step.kept.row ∙ c.row); line = t.3.line },
     )
 
 -- a line was there, and could not be taken

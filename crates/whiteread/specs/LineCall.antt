@@ -1,5 +1,5 @@
 -- What the reading of a line does to a reader.
-use Rattle.std.specs.Prelude.{◌≡◌, ◌≤◌, ◌<◌, ◌⊎◌, ℕ, ◌+◌, List, [], ◌++◌, length, min, max, Bool, true, false, Option, Result, Ok, Err, IsUtf8}
+use Rattle.std.specs.Prelude.{◌≡◌, ◌≤◌, ◌<◌, ◌⊎◌, ℕ, ◌+◌, List, [], ◌++◌, length, min, Bool, true, false, Result, Ok, Err, IsUtf8}
 use Rattle.std.specs.Io.KnownBytes.{IsAtEnd}
 use Rattle.edge_io.specs.Supply.{Supply, Gave}
 use Rattle.whiteread.specs.Lines.{HasNoFeed, IsFirstLine}

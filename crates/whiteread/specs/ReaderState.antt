@@ -1,11 +1,11 @@
 -- What a `Reader` shows of itself.
-pub mod Pending
+pub mod Buffer
 pub mod ReaderWords
 pub mod ReaderCalls
 pub mod Opened
 use Rattle.std.specs.Prelude.{◌≡◌, ℕ, List, Bool, string_bytes}
 use Rattle.edge_io.specs.Supply.{Supply}
-use Rattle.whiteread.specs.ReaderState.Pending.{pending_bytes}
+use Rattle.whiteread.specs.ReaderState.Buffer.{buffer_line, buffer_waiting}
 use Rattle.whiteread.specs.declared.reader.Reader.{Reader}
 use Rattle.whiteread.specs.declared.stream.error.IoFault.{IoFault}
 use Rattle.whiteread.specs.declared.stream.error.IoFault.TheVariants.{ReadFault, NotUtf8, TooLong, CannotOpen}
@@ -28,11 +28,11 @@ reader_past r = r.past
 
 -- The bytes that were taken and wait for the next line.
 abbrev pub reader_waiting : {B : Type 0} → Reader B → List ℕ
-reader_waiting r = pending_bytes r.waiting
+reader_waiting r = buffer_waiting r.buffer
 
 -- The current line, its line feed included; empty where there is none.
 abbrev pub reader_line : {B : Type 0} → Reader B → List ℕ
-reader_line r = string_bytes r.line
+reader_line r = buffer_line r.buffer
 
 -- How many bytes of the current line were passed.
 abbrev pub reader_passed : {B : Type 0} → Reader B → ℕ

@@ -1,24 +1,32 @@
 // Lines of a source, read in pieces, and the values that are read from them.
-ghost use Rattle.std.specs.Prelude.{◌≡◌, ◌≤◌, ◌↔◌, [], true, false, IsTrue, IfErr, length, string_bytes, IsCharBoundary};
-ghost use Rattle.whiteread.specs.Lines.{HasNoFeed};
-ghost use Rattle.whiteread.specs.ReaderState.Pending.{pending_bytes};
+ghost use Rattle.std.specs.Prelude.{◌≡◌, ◌≤◌, ◌↔◌, [], true, false, IsTrue, IfErr, length, take, drop, IsCharBoundary};
+ghost use Rattle.edge_io.specs.Ends.{Rises};
+ghost use Rattle.whiteread.specs.Lines.{HasNoFeed, IsFirstLine};
+ghost use Rattle.whiteread.specs.ReaderState.Buffer.{buffer_line, buffer_waiting};
 
+mod buffer;
 pub(crate) mod ends;
 mod error;
 pub(crate) mod one_line;
-mod pending;
 mod values;
 mod words;
 
 use crate::stream;
 use crate::stream::IoFault;
+use buffer::Buffer;
 use edge_io::Source;
 pub use error::{Error, Result};
-use pending::Pending;
 use std::alloc::Global;
 
 /// How many bytes a read asks for at most.
 const PIECE: u64 = 4096;
+
+/// One more of a fault. The count stands still at the greatest u64.
+fn counted(count: u64) -> u64
+    ensures { Rises count result }
+{
+    count.saturating_add(1)
+}
 
 /// Hands out the lines of a source one by one, and reads words and values from them. It takes at most so many bytes
 /// as its limit says, reads only where no whole line is waiting, and holds no more than a line and a read.
@@ -29,16 +37,15 @@ pub struct Reader<B> {
     limit: u64,
     taken: u64,
     past: bool,
-    waiting: Pending,
-    line: String,
+    buffer: Buffer,
     passed: usize,
     row: u64,
     not_utf8: u64,
     too_long: u64,
     ghost within: { taken ≤ limit },
     ghost full: { past ≡ true → taken ≡ limit },
-    ghost no_line: { past ≡ true → HasNoFeed (pending_bytes waiting) },
-    ghost boundary: { IsCharBoundary (string_bytes line) passed },
+    ghost no_line: { past ≡ true → HasNoFeed (buffer_waiting buffer) },
+    ghost boundary: { IsCharBoundary (buffer_line buffer) passed },
 }
 
 impl<B: Source> Reader<B> {
@@ -65,8 +72,7 @@ impl<B: Source> Reader<B> {
             limit,
             taken: 0,
             past: false,
-            waiting: Pending::new(alloc),
-            line: String::new(alloc),
+            buffer: Buffer::new(alloc),
             passed: 0,
             row: 0,
             not_utf8: 0,
@@ -90,7 +96,7 @@ impl<B: Source> Reader<B> {
     pub fn current_line(&self) -> &str
         ensures { result.now ≡ reader_line self.now }
     {
-        self.line.as_str()
+        self.buffer.line()
     }
 
     /// Whether a whole line is waiting, so that the next reading of a line makes no read.
@@ -98,7 +104,7 @@ impl<B: Source> Reader<B> {
         ensures waits { IsTrue result ↔ (¬ HasNoFeed (reader_waiting self.old)) }
         ensures unchanged { ShowsSame self.old self.new }
     {
-        self.waiting.line_len().is_some()
+        self.buffer.line_len().is_some()
     }
 
     /// The source. Bytes that were taken already are dropped.
@@ -113,7 +119,7 @@ impl<B: Source> Reader<B> {
     pub(crate) fn read_line(&mut self) -> stream::Result<bool>
         ensures { LineCall B.supply self.old result self.new }
     {
-        self.line.clear();
+        self.buffer.clear_line();
         self.passed = 0;
         let Some(len) = self.await_line()? else {
             self.row = self.row.saturating_add(1);
@@ -125,14 +131,15 @@ impl<B: Source> Reader<B> {
 
     /// Reads until a whole line waits, and answers its length; None where the input has ended.
     fn await_line(&mut self) -> stream::Result<Option<usize>>
+        requires { reader_line self.old ≡ [] }
         ensures { AwaitCall B.supply self.old result self.new }
     {
         'reads: loop {
-            if let Some(len) = self.waiting.line_len() {
+            if let Some(len) = self.buffer.line_len() {
                 return Ok(Some(len));
             }
             if !self.read_piece()? {
-                let len = self.waiting.len();
+                let len = self.buffer.len();
                 if len == 0 {
                     return Ok(None);
                 }
@@ -143,18 +150,19 @@ impl<B: Source> Reader<B> {
 
     /// Makes one read, and answers whether it gave bytes. At the limit it asks for one byte, which is past it.
     fn read_piece(&mut self) -> stream::Result<bool>
-        requires { HasNoFeed (reader_waiting self.old) }
+        requires no_feed { HasNoFeed (reader_waiting self.old) }
+        requires no_line { reader_line self.old ≡ [] }
         ensures { PieceCall B.supply self.old result self.new }
     {
         if self.past {
-            self.too_long = self.too_long.saturating_add(1);
+            self.too_long = counted(self.too_long);
             return Err(stream::Error::IoError(IoFault::TooLong));
         }
         if self.taken == self.limit {
             return self.probe();
         }
         let ask = (self.limit - self.taken).min(PIECE);
-        let count = self.waiting.read_from(&mut self.source, ask as usize)?;
+        let count = self.buffer.read_from(&mut self.source, ask as usize)?;
         self.taken += count as u64;
         Ok(count > 0)
     }
@@ -171,7 +179,7 @@ impl<B: Source> Reader<B> {
             Ok(0) => Ok(false),
             Ok(_) => {
                 self.past = true;
-                self.too_long = self.too_long.saturating_add(1);
+                self.too_long = counted(self.too_long);
                 Err(stream::Error::IoError(IoFault::TooLong))
             }
             Err(_) => Err(stream::Error::IoError(IoFault::ReadFault)),
@@ -181,21 +189,16 @@ impl<B: Source> Reader<B> {
     /// Makes the first bytes that wait the current line.
     fn take_line(&mut self, len: usize) -> stream::Result<()>
         requires waits { len ≤ length (reader_waiting self.old) }
-        requires no_line { reader_line self.old ≡ [] }
+        requires first { IsFirstLine (take len (reader_waiting self.old)) (drop len (reader_waiting self.old)) }
         requires none_passed { reader_passed self.old ≡ 0 }
         ensures { TakeCall B.supply len self.old result self.new }
     {
-        let Ok(text) = std::str::from_utf8(self.waiting.front(len)) else {
-            self.waiting.drop_front(len);
-            self.row = self.row.saturating_add(1);
-            self.not_utf8 = self.not_utf8.saturating_add(1);
-            return Err(stream::Error::IoError(IoFault::NotUtf8));
-        };
-        if self.line.push_str(text).is_err() {
-            return Err(stream::Error::NoMemory);
-        }
-        self.waiting.drop_front(len);
+        let is_text = self.buffer.take_line(len);
         self.row = self.row.saturating_add(1);
+        if !is_text {
+            self.not_utf8 = counted(self.not_utf8);
+            return Err(stream::Error::IoError(IoFault::NotUtf8));
+        }
         Ok(())
     }
 }

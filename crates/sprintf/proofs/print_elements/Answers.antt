@@ -24,7 +24,7 @@ loop-element-preserved g c =
             done.2 ∙ ap (onto done.0) next ∙ onto-onto done.0 w.in-Verbatim.text.now left,
           )
       | in-Format+in_ok-rest-in-Format w ↦
-          let field = w.in_ok-rest-in-Format.ensures.ok in
+          let field = w.in_ok-rest-in-Format.ensures.text in
           let next : printed (drop c.loop-element.element-index c.args.elements.now) (map g.P.Printf.meaning c.loop-element.rest.now) ≡ onto field.0 left = grind (arith, common_steps) in (
             done.0 ++ field.0,
             behind _ _ _ done.0 _ done.1 (ap string_bytes w.out-is ∙ field.2),

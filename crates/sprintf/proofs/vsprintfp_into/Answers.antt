@@ -2,7 +2,7 @@ use Rattle.std.proofs.Common.{◌≡◌, ℕ, ◌+◌, List, ◌++◌, length, t
 use Rattle.std.proofs.Math.Seq.{take-append_seam}
 use Rattle.std.specs.Str.{IsUtf8}
 use Rattle.std.proofs.lemmas.Str.{IsCharBoundary-from_take, IsUtf8-string_bytes}
-use Rattle.sprintf.specs.Reading.{Starts}
+use Rattle.sprintf.specs.Inner.Reading.{Starts}
 use Rattle.sprintf.proofs.vsprintfp_into.Goals as goal
 
 -- a text may be cut behind the text that it begins with

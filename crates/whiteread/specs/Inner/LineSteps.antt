@@ -1,5 +1,5 @@
 -- What the steps of the reading of a line do to a reader.
-use Rattle.std.specs.Prelude.{◌≡◌, ◌≤◌, ◌<◌, ℕ, ◌+◌, List, length, take, drop, max, IsUtf8, Bool, true, false, Option, Some, None, Result, Ok, Err, ◌⊎◌}
+use Rattle.std.specs.Prelude.{◌≡◌, ◌≤◌, ◌<◌, ℕ, ◌+◌, length, take, drop, IsUtf8, Bool, true, false, Option, Some, None, Result, Ok, Err, ◌⊎◌}
 use Rattle.std.specs.Io.KnownBytes.{IsAtEnd}
 use Rattle.edge_io.specs.Supply.{Supply}
 use Rattle.whiteread.specs.Lines.{HasNoFeed, IsFirstLine}
@@ -67,17 +67,10 @@ pub record AwaitCall {B : Type 0} (supply : Supply B) (old : Reader B) (answer :
   pub step : StepCall supply old answer new
   pub lazy : (¬ HasNoFeed (reader_waiting old)) ⊎ (reader_past old ≡ true) → reader_source new ≡ reader_source old
 
--- The first bytes that wait became the current line, or were passed since they are no text, or want of memory left all.
+-- The first bytes that wait became the current line, or were passed since they are no text.
 abbrev pub TakeOutcome : {B T : Type 0} → ℕ → Reader B → Result T Error → Reader B → Type 0
 TakeOutcome len old (Ok done) new = (reader_waiting new ≡ drop len (reader_waiting old)) × (reader_line new ≡ take len (reader_waiting old)) × IsUtf8 (take len (reader_waiting old)) × (reader_row new ≡ next_row (reader_row old))
-TakeOutcome len old (Err (TooShort progress)) new = ⊥
-TakeOutcome len old (Err Leftovers) new = ⊥
-TakeOutcome len old (Err ParseError) new = ⊥
-TakeOutcome len old (Err (IoError ReadFault)) new = ⊥
-TakeOutcome len old (Err (IoError NotUtf8)) new = (reader_waiting new ≡ drop len (reader_waiting old)) × (¬ IsUtf8 (take len (reader_waiting old))) × HasNoLine (next_row (reader_row old)) new
-TakeOutcome len old (Err (IoError TooLong)) new = ⊥
-TakeOutcome len old (Err (IoError CannotOpen)) new = ⊥
-TakeOutcome len old (Err NoMemory) new = (reader_waiting new ≡ reader_waiting old) × HasNoLine (reader_row old) new
+TakeOutcome len old (Err why) new = (why ≡ IoError NotUtf8) × (reader_waiting new ≡ drop len (reader_waiting old)) × (¬ IsUtf8 (take len (reader_waiting old))) × HasNoLine (next_row (reader_row old)) new
 
 -- What the taking of a line from the bytes that wait does.
 pub record TakeCall {B T : Type 0} (supply : Supply B) (len : ℕ) (old : Reader B) (answer : Result T Error) (new : Reader B) : Type 0 where

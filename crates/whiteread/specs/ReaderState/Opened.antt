@@ -1,5 +1,5 @@
 -- New readers, and calls that read a whole input or one line of it.
-use Rattle.std.specs.Prelude.{◌≡◌, ◌⊎◌, ℕ, Bool, false, List, [], Option, Result, Err}
+use Rattle.std.specs.Prelude.{◌≡◌, ◌⊎◌, ℕ, Bool, false, [], Result, Err}
 use Rattle.edge_io.specs.Supply.{Supply}
 use Rattle.whiteread.specs.Reading.{Reading}
 use Rattle.whiteread.specs.Reading.Whole.{WholeCall}

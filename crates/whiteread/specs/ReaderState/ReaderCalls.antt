@@ -1,5 +1,5 @@
 -- What the calls of a reader that read values do.
-use Rattle.std.specs.Prelude.{◌≡◌, ℕ, List, Bool, true, false, Option, Result, Ok, Err, IfOk}
+use Rattle.std.specs.Prelude.{◌≡◌, ℕ, List, Bool, true, false, Result, Ok, Err, IfOk}
 use denote.Ref.{Bor}
 use Rattle.edge_io.specs.Supply.{Supply}
 use Rattle.whiteread.specs.Reading.{ReadCall}

@@ -1,10 +1,9 @@
 -- Laws of readings that no call carries.
-use Rattle.std.specs.Prelude.{◌≡◌, ◌<◌, ◌↔◌, ℕ, Bool, List, length, Option, Some, None, Result, Ok, Err, ⊤}
+use Rattle.std.specs.Prelude.{◌≡◌, ◌<◌, ◌↔◌, ℕ, Bool, List, length, Option, None, Result, Ok, Err}
 use Rattle.whiteread.specs.Words.{Words, AreLongestRuns}
-use Rattle.whiteread.specs.Reading.{Relation, Reading, ReadCall}
-use Rattle.whiteread.specs.Stream.{Stream}
+use Rattle.whiteread.specs.Reading.{Relation}
 use Rattle.whiteread.specs.declared.stream.error.Error.{Error}
-use Rattle.whiteread.specs.declared.stream.error.Error.TheVariants.{TooShort, Leftovers, ParseError, IoError, NoMemory}
+use Rattle.whiteread.specs.declared.stream.error.Error.TheVariants.{TooShort}
 use Rattle.whiteread.specs.declared.stream.error.Progress.TheVariants.{Nothing}
 
 -- These are the longest runs, and no other list is.

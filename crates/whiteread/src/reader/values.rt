@@ -78,7 +78,7 @@ impl<B: Source> Reader<B> {
         ensures { LendsNext B.supply self.old result }
     {
         self.start_line::<()>()?;
-        Ok(self.line.as_str())
+        Ok(self.current_line())
     }
 
     /// Tells an answer, an error with its place in the current line.
@@ -92,7 +92,7 @@ impl<B: Source> Reader<B> {
                 why,
                 self.row,
                 self.passed,
-                self.line.as_str(),
+                self.current_line(),
                 cheap,
             )),
         }
@@ -101,7 +101,7 @@ impl<B: Source> Reader<B> {
     fn read_in_line<T: FromStream>(&mut self) -> stream::Result<T>
         ensures { InLine (ReadCall split_stream T.reading) self.old result self.new }
     {
-        let mut words = SplitAsciiWhitespace::from_parts(self.line.as_str(), self.passed);
+        let mut words = SplitAsciiWhitespace::from_parts(self.current_line(), self.passed);
         let answer = T::read(self.alloc, &mut words);
         self.passed = words.position();
         answer
@@ -110,7 +110,7 @@ impl<B: Source> Reader<B> {
     fn read_whole_line<T: FromStream>(&mut self) -> stream::Result<T>
         ensures { InLine (WholeCall split_stream T.reading) self.old result self.new }
     {
-        let mut words = SplitAsciiWhitespace::from_parts(self.line.as_str(), self.passed);
+        let mut words = SplitAsciiWhitespace::from_parts(self.current_line(), self.passed);
         let answer = read_whole(self.alloc, &mut words);
         self.passed = words.position();
         answer

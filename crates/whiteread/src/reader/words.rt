@@ -12,7 +12,7 @@ impl<B: Source> Reader<B> {
     fn look(&mut self) -> Option<usize>
         ensures { LooksInLine self.old result self.new }
     {
-        let (start, end) = find_word(self.line.as_str(), self.passed);
+        let (start, end) = find_word(self.current_line(), self.passed);
         if start >= end {
             return None;
         }
@@ -48,6 +48,6 @@ impl<B: Source> StrStream for Reader<B> {
             return Ok(None);
         };
         let end = self.passed;
-        Ok(Some(&self.line[start..end]))
+        Ok(Some(&self.current_line()[start..end]))
     }
 }

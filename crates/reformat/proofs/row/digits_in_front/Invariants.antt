@@ -1,5 +1,5 @@
 use Rattle.std.proofs.Common.{length}
-use Rattle.reformat.specs.Digits.{ReadsDigits}
+use Rattle.reformat.specs.Inner.Digits.{ReadsDigits}
 use Rattle.reformat.proofs.row.digits_in_front.Given as goal
 
 abbrev pub invariant-digits : goal.invariant-digits

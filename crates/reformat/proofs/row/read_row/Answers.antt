@@ -2,8 +2,8 @@ use Rattle.std.proofs.Common.{◌≡◌, ◌<◌, ◌^◌, All, List, ℕ, [], s
 use Rattle.std.proofs.lemmas.List.{drop_all}
 use Rattle.std.proofs.lemmas.Bool.Decides.{nat_tests}
 use Rattle.sprintf.specs.declared.parser.FormatElement.{FormatElement}
-use Rattle.reformat.specs.Pieces.{flat}
-use Rattle.reformat.specs.ElementRead.{Reaches, ReadsTo}
+use Rattle.reformat.specs.Inner.Pieces.{flat}
+use Rattle.reformat.specs.Inner.ElementRead.{Reaches, ReadsTo}
 use Rattle.reformat.proofs.ElementLemmas.{row_reaches, row_is, step_none, step_fit, step_forward, step_back, empty_is}
 use Rattle.reformat.proofs.row.read_row.Goals as goal
 

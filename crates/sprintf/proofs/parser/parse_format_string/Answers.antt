@@ -2,7 +2,7 @@ use Rattle.std.proofs.Common.{◌≡◌, ◌++◌, ◌∷◌, [], ℕ, List, ari
 use Rattle.std.proofs.lemmas.Str.Pattern.{split_parts}
 use Rattle.sprintf.specs.declared.parser.FormatElement.{FormatElement}
 use Rattle.sprintf.specs.Grammar.{IsFormat}
-use Rattle.sprintf.specs.Reading.{verbatim}
+use Rattle.sprintf.specs.Inner.Reading.{verbatim}
 use Rattle.sprintf.proofs.Formats.{step_sound, step_complete, step_fails, end_sound, plain_at, shorter}
 use Rattle.sprintf.proofs.parser.parse_format_string.Goals as goal
 

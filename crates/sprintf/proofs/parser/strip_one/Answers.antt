@@ -1,7 +1,7 @@
 use Rattle.std.proofs.Common.{◌≡◌, ◌≢◌, ℕ, ◌+◌, ◌<◌, List, [], ◌∷◌, ◌++◌, length, map, drop, get_or, Some, None, unwrap_or, refl, sym, ap, ◌∙◌, arith, Bor}
 use Rattle.std.proofs.lemmas.Bool.Decides.{nat_tests}
 use Rattle.std.proofs.lemmas.List.{at_drop_more}
-use Rattle.sprintf.specs.Reading.{behind, skip_one}
+use Rattle.sprintf.specs.Inner.Reading.{behind, skip_one}
 use Rattle.sprintf.proofs.parser.strip_one.Goals as goal
 
 -- the text behind a word that it begins with

@@ -1,5 +1,5 @@
 use Rattle.std.proofs.Common.{◌≡◌, drop, map}
-use Rattle.sprintf.specs.Reading.{skip_one}
+use Rattle.sprintf.specs.Inner.Reading.{skip_one}
 use Rattle.sprintf.proofs.parser.strip_one.Given as goal
 
 abbrev pub invariant-loop-word : goal.invariant-loop-word

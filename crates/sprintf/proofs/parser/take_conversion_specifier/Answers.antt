@@ -1,7 +1,7 @@
 use Rattle.std.proofs.Common.{◌≡◌, ℕ, List, take, drop, Option, Some, None, refl, sym, ◌∙◌}
 use Rattle.std.specs.List.{prefix_len}
 use Rattle.sprintf.specs.declared.parser.NumericParam.{NumericParam}
-use Rattle.sprintf.specs.Reading.{read_field, read_param, read_precision, read_letter, conversion_of, skip_one, field_with}
+use Rattle.sprintf.specs.Inner.Reading.{read_field, read_param, read_precision, read_letter, conversion_of, skip_one, field_with}
 use Rattle.sprintf.specs.Grammar.{is_flag, length_modifiers}
 use Rattle.sprintf.proofs.Letters.{read_letter-none, read_letter-some}
 use Rattle.sprintf.proofs.parser.take_conversion_specifier.Goals as goal

@@ -8,7 +8,7 @@ use mir.Val.{to_z, of_z}
 use Rattle.numerals.specs.Numeral.{text_value}
 use Rattle.std.proofs.lemmas.Int.{ints}
 use Rattle.sprintf.specs.declared.parser.NumericParam.TheVariants.{Literal}
-use Rattle.sprintf.specs.Reading.{read_param, read_count}
+use Rattle.sprintf.specs.Inner.Reading.{read_param, read_count}
 use Rattle.sprintf.proofs.Runs.{prefix_len-take, differs}
 use Rattle.sprintf.proofs.parser.take_numeric_param.Goals as goal
 

@@ -1,6 +1,6 @@
 use Rattle.std.proofs.Common.{◌≡◌, ◌≢◌, ℕ, ◌∷◌, [], List, Some, None, arith, refl}
 use Rattle.std.proofs.lemmas.Str.Pattern.{strip_prefix_char}
-use Rattle.sprintf.specs.Reading.{read_precision}
+use Rattle.sprintf.specs.Inner.Reading.{read_precision}
 use Rattle.sprintf.proofs.Runs.{differs}
 use Rattle.sprintf.proofs.parser.take_precision.Goals as goal
 

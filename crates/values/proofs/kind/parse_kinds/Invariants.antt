@@ -1,7 +1,7 @@
 -- The words so far name these kinds, and the others are left.
 use Rattle.std.proofs.Common.{◌≡◌, ◌++◌, map}
 use Rattle.whiteread.specs.Words.{words}
-use Rattle.whiteread.specs.Split.{words_left}
+use Rattle.whiteread.specs.Words.Split.{words_left}
 use Rattle.values.specs.Kind.{kind_word}
 use Rattle.values.proofs.kind.parse_kinds.Given as goal
 

@@ -7,4 +7,4 @@ returns-in_err-start_line g c =
     rw (p.1, p.2) (c.start_line.new.self, record { told = c.in_err-start_line.ensures; lent = tt })
 
 pub returns : goal.returns
-returns g c = (c.start_line.new.self, record { told = c.in_ok-start_line.ensures; lent = c.as_str.ensures.value })
+returns g c = (c.start_line.new.self, record { told = c.in_ok-start_line.ensures; lent = c.current_line.ensures })

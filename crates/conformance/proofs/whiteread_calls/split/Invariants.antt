@@ -1,6 +1,0 @@
-use Rattle.std.proofs.Common.{length}
-use Rattle.whiteread.specs.Words.Split.{words_left}
-use Rattle.conformance.proofs.whiteread_calls.split.Given as goal
-
-abbrev pub decreases-words : goal.decreases-words
-decreases-words l = length (words_left l.words)

@@ -1,0 +1,6 @@
+-- What follows the second brace.
+use Rattle.formatx.proofs.EndLemmas.{end_trans}
+use Rattle.formatx.proofs.parser.close.Goals as goal
+
+pub returns-in-Some-clause-leaves : goal.returns-in-Some-clause-leaves
+returns-in-Some-clause-leaves c = end_trans c.skip_byte-rest.ensures.leaves c.in-Some.ensures.leaves

@@ -1,0 +1,6 @@
+-- What follows the `$`.
+use Rattle.formatx.proofs.EndLemmas.{end_trans}
+use Rattle.formatx.proofs.parser.count.Goals as goal
+
+pub returns-in-Some-clause-leaves : goal.returns-in-Some-clause-leaves
+returns-in-Some-clause-leaves c = end_trans c.skip_word-word_end.ensures.leaves c.in-Some.ensures.leaves

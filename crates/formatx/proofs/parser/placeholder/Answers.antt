@@ -1,0 +1,18 @@
+-- Each part follows the one before it.
+use Rattle.formatx.proofs.EndLemmas.{end_trans}
+use Rattle.formatx.proofs.parser.placeholder.Goals as goal
+
+pub argument-requires : goal.argument-requires
+argument-requires c = end_trans c.requires.end c.skip_byte.ensures.leaves
+
+pub spec-requires : goal.spec-requires
+spec-requires c = end_trans c.requires.end (end_trans c.skip_byte.ensures.leaves c.in_ok-argument.ensures.leaves)
+
+pub span_between-span-requires-clause-to : goal.span_between-span-requires-clause-to
+span_between-span-requires-clause-to c = end_trans (end_trans (end_trans c.skip_byte.ensures.leaves c.in_ok-argument.ensures.leaves) c.in_ok-spec.ensures.leaves) c.in-Some.ensures.leaves
+
+pub span_between-span-requires-in-None-clause-to : goal.span_between-span-requires-in-None-clause-to
+span_between-span-requires-in-None-clause-to c = end_trans (end_trans c.skip_byte.ensures.leaves c.in_ok-argument.ensures.leaves) c.in_ok-spec.ensures.leaves
+
+pub returns-in-Some-clause-leaves : goal.returns-in-Some-clause-leaves
+returns-in-Some-clause-leaves c = end_trans (end_trans (end_trans c.skip_byte.ensures.leaves c.in_ok-argument.ensures.leaves) c.in_ok-spec.ensures.leaves) c.in-Some.ensures.leaves

@@ -1,0 +1,9 @@
+mod LineLemmas
+mod NextLemmas
+mod EndLemmas
+mod OneAnswer
+mod Splitting
+mod GoesLemmas
+mod ExitLemmas
+mod StepLemmas
+mod RunsLemmas

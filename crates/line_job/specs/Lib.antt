@@ -1,0 +1,9 @@
+pub mod Ends
+pub mod Stop
+pub mod Refusal
+pub mod Rules
+pub mod Reached
+pub mod Runs
+pub mod Told
+pub mod Laws
+pub mod Inner

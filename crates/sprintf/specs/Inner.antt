@@ -1,0 +1,2 @@
+-- What the private functions promise. Nothing public cites it.
+pub mod Reading
