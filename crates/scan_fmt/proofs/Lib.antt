@@ -7,4 +7,5 @@ pub mod Runs
 pub mod OneAnswer
 pub mod Cutting
 pub mod Taking
+pub mod Pieces
 pub mod SomeAnswer

@@ -1,12 +1,17 @@
--- What the rest of the directives come to over the rest of the input, after the tokens so far; and the directives of a format so far.
-use Rattle.std.proofs.Common.{◌≡◌, ◌≢◌, ℕ, List, [], ◌∷◌, ◌++◌, map, Some, None, sym, ap, subst, refl, ◌∙◌, append_assoc}
-use Rattle.std.proofs.lemmas.List.{append-nil, map-append}
-use Rattle.scan_fmt.specs.Directives.{Directive, Spells, NoDirective, Cuts, after_blanks}
-use Rattle.scan_fmt.specs.Scanned.{Token, Outcome, Found, Mismatch, with_token, Passes, Refuses, ended, refused, passed, Takes, tokens_of, ScannedTexts}
-use Rattle.scan_fmt.specs.Inner.Parts.{TakesTexts}
-
-abbrev pub text_of : Token → List ℕ
-text_of t = t.text
+-- What the rest of the directives come to over the rest of the input, after the pieces so far; and the directives of a format so far.
+use Rattle.std.proofs.Common.{◌≡◌, ◌≢◌, ◌+◌, ◌≤◌, ℕ, Bool, true, false, cond, List, [], ◌∷◌, ◌++◌, length, take, drop, map, Option, Some, None, sym, ap, subst, refl, inl, inr, ◌∙◌, arith, append_assoc, length-append, eqb}
+use Rattle.std.specs.List.{AllByRecursion}
+use Rattle.std.specs.Str.{chars, IsUtf8, encode_utf8_all}
+use Rattle.std.proofs.lemmas.Bool.{cases_Bool}
+use Rattle.std.proofs.lemmas.List.{append-nil, take-append-drop}
+use Rattle.std.proofs.lemmas.Str.{chars-append, encodes-chars, encodes-append, IsUtf8-append}
+use Rattle.std.specs.List.{slice_index}
+use Rattle.std.specs.Str.Parse.{without_leading_plus}
+use Rattle.scan_fmt.specs.declared.slices.Piece.{Piece}
+use Rattle.scan_fmt.specs.Directives.{Shape, Characters, Number, Decimal, Hexadecimal, Float, Directive, Exactly, Field, AtEnd, Spells, NoDirective, Cuts, is_blank, after_blanks}
+use Rattle.scan_fmt.specs.Scanned.{Token, token_text, begins_0x, Outcome, Found, Mismatch, with_token, Passes, Refuses, ended, refused, passed, Takes, tokens_of, ScannedTexts}
+use Rattle.scan_fmt.specs.Slices.{piece_text, IsSlice, IsPiece, ArePieces, AreInOrder, ScannedPieces}
+use Rattle.scan_fmt.specs.Inner.Parts.{TakesPieces}
 
 -- with these tokens in front
 abbrev pub after : List Token → Outcome → Outcome
@@ -21,47 +26,180 @@ after_token : (done : List Token) (token : Token) (out : Outcome) → after done
 after_token done token (Found tokens) = ap Found (sym (append_assoc done (token ∷ []) tokens))
 after_token done token (Mismatch input) = refl
 
--- what the rests come to comes after what was done
-pub record Continues (all : List Directive) (input : List ℕ) (ds : List Directive) (rest : List ℕ) (texts : List (List ℕ)) : Type 0 where
+-- pieces
+pieces_more : (input : List ℕ) (ps : List Piece) (ts : List Token) (p : Piece) (t : Token) → ArePieces input ps ts → IsPiece input p t → ArePieces input (ps ++ p ∷ []) (ts ++ t ∷ [])
+pieces_more input [] [] p t h is = (is, tt)
+pieces_more input [] (u ∷ ts) p t h is = absurd h
+pieces_more input (q ∷ ps) [] p t h is = absurd h
+pieces_more input (q ∷ ps) (u ∷ ts) p t h is = (h.0, pieces_more input ps ts p t h.1 is)
+
+order_weaker : (m n : ℕ) (ps : List Piece) → m ≤ n → AreInOrder n ps → AreInOrder m ps
+order_weaker m n [] le h = tt
+order_weaker m n (p ∷ ps) le h = (omega (arith, h.0), h.1)
+
+pub slices_are : (input : List ℕ) (ps : List Piece) (ts : List Token) → ArePieces input ps ts → AllByRecursion (IsSlice input) ps
+slices_are input [] [] h = tt
+slices_are input [] (t ∷ ts) h = absurd h
+slices_are input (p ∷ ps) [] h = absurd h
+slices_are input (p ∷ ps) (t ∷ ts) h = (h.0.slice, slices_are input ps ts h.1)
+
+pub texts_are : (input : List ℕ) (ps : List Piece) (ts : List Token) → ArePieces input ps ts → map chars (map (piece_text input) ps) ≡ map (λ (t : Token). t.text) ts
+texts_are input [] [] h = refl
+texts_are input [] (t ∷ ts) h = absurd h
+texts_are input (p ∷ ps) [] h = absurd h
+texts_are input (p ∷ ps) (t ∷ ts) h = let one : chars (piece_text input p) ≡ t.text = h.0.text in let more = texts_are input ps ts h.1 in cc
+
+-- the bytes behind a front, where it is known of their characters
+rest_of : (text rest front : List ℕ) → IsUtf8 text → IsUtf8 rest → chars text ≡ front ++ chars rest → text ≡ encode_utf8_all front ++ rest
+rest_of text rest front u v e = sym (encodes-chars text u) ∙ ap encode_utf8_all e ∙ encodes-append front (chars rest) ∙ ap (λ (t : List ℕ). encode_utf8_all front ++ t) (encodes-chars rest v)
+
+-- a front of the input, what stands behind it, and that it is no shorter than another
+pub record Front (input rest : List ℕ) (least : ℕ) : Type 0 where
+  pub front : List ℕ
+  pub whole : input ≡ front ++ rest
+  pub longer : least ≤ length front
+
+front_more : (input front rest more bytes : List ℕ) → input ≡ front ++ rest → rest ≡ bytes ++ more → Front input more (length front)
+front_more input front rest more bytes whole is = record {
+  front = front ++ bytes;
+  whole = whole ∙ ap (λ (t : List ℕ). front ++ t) is ∙ sym (append_assoc front bytes more);
+  longer = omega (arith, length-append front bytes);
+}
+
+blanks_front : (text : List ℕ) → (blanks : List ℕ) × (text ≡ blanks ++ after_blanks text)
+blanks_front [] = ([], refl)
+blanks_front (c ∷ cs) = elim (cases_Bool (is_blank c)) [
+  | inl e ↦ rw e (let more = blanks_front cs in (c ∷ more.0, ap (λ (t : List ℕ). c ∷ t) more.1))
+  | inr e ↦ rw e ([], refl)
+]
+
+-- behind white space
+pub here_front : (input front rest here : List ℕ) → input ≡ front ++ rest → IsUtf8 rest → IsUtf8 here → chars here ≡ after_blanks (chars rest) → Front input here (length front)
+here_front input front rest here whole u v is =
+    let blanks = blanks_front (chars rest) in
+    front_more input front rest here (encode_utf8_all blanks.0) whole (rest_of rest here blanks.0 u v (blanks.1 ∙ ap (λ (t : List ℕ). blanks.0 ++ t) (sym is)))
+
+passes_front : (d : Directive) (input rest : List ℕ) (token : Option Token) → Passes d input token rest → (taken : List ℕ) × (input ≡ taken ++ rest)
+passes_front (Exactly c) input rest token h = (c ∷ [], h.0)
+passes_front (Field stored s) input rest token (taken, long, is) = (taken, long.whole)
+passes_front AtEnd input rest token h = absurd h
+
+-- behind what a directive passes
+pub left_front : (input front here left : List ℕ) (d : Directive) (token : Option Token) → input ≡ front ++ here → IsUtf8 here → IsUtf8 left → Passes d (chars here) token (chars left) → Front input left (length front)
+left_front input front here left d token whole u v passes =
+    let taken = passes_front d (chars here) (chars left) token passes in
+    front_more input front here left (encode_utf8_all taken.0) whole (rest_of here left taken.0 u v taken.1)
+
+-- what was taken ends with the token's text
+dropped_if : (b : Bool) (text : List ℕ) → (dropped : List ℕ) × (text ≡ dropped ++ cond b (drop 2 text) text)
+dropped_if true text = (take 2 text, sym (take-append-drop 2 text))
+dropped_if false text = ([], refl)
+
+plus_front : (text : List ℕ) → (dropped : List ℕ) × (text ≡ dropped ++ without_leading_plus text)
+plus_front text = (take (cond (eqb (slice_index text 0) 43) 1 0) text, sym (take-append-drop (cond (eqb (slice_index text 0) 43) 1 0) text))
+
+text_front : (s : Shape) (taken : List ℕ) → (dropped : List ℕ) × (taken ≡ dropped ++ token_text s taken)
+text_front (Characters run) taken = ([], refl)
+text_front (Number Decimal limit) taken = plus_front taken
+text_front (Number Hexadecimal limit) taken = dropped_if (begins_0x taken) taken
+text_front (Number Float limit) taken = plus_front taken
+
+passes_token : (d : Directive) (input rest : List ℕ) (token : Token) → Passes d input (Some token) rest → (dropped : List ℕ) × (input ≡ dropped ++ (token.text ++ rest))
+passes_token (Exactly c) input rest token h = absurd (let bad : Some token ≡ None = h.1 in cc)
+passes_token (Field true s) input rest token (taken, long, is) =
+    let front = text_front s taken in
+    let same : token ≡ record { text = token_text s taken; behind = rest } = cc in
+    (front.0, long.whole ∙ ap (λ (t : List ℕ). t ++ rest) front.1 ∙ append_assoc front.0 (token_text s taken) rest ∙ ap (λ (t : List ℕ). front.0 ++ (t ++ rest)) (sym (ap (λ (t : Token). t.text) same)))
+passes_token (Field false s) input rest token (taken, long, is) = absurd (let bad : Some token ≡ None = is in cc)
+passes_token AtEnd input rest token h = absurd h
+
+-- the token and what is left stand behind a front
+pub token_front : (input front here token left : List ℕ) (d : Directive) → input ≡ front ++ here → IsUtf8 here → IsUtf8 token → IsUtf8 left → Passes d (chars here) (Some (record { text = chars token; behind = chars left })) (chars left)
+    → Front input (token ++ left) (length front)
+token_front input front here token left d whole u v w passes =
+    let dropped = passes_token d (chars here) (chars left) (record { text = chars token; behind = chars left }) passes in
+    front_more input front here (token ++ left) (encode_utf8_all dropped.0) whole
+    (rest_of here (token ++ left) dropped.0 u (IsUtf8-append token left v w) (dropped.1 ∙ ap (λ (t : List ℕ). dropped.0 ++ t) (sym (chars-append token left v))))
+
+-- what the rests come to comes after what was done, and so do its pieces
+pub record Placed (all : List Directive) (input : List ℕ) (ds : List Directive) (rest : List ℕ) (pieces : List Piece) : Type 0 where
   pub done : List Token
-  pub are : texts ≡ map text_of done
-  pub goes : (out : Outcome) → Takes ds rest out → Takes all input (after done out)
+  pub goes : (out : Outcome) → Takes ds (chars rest) out → Takes all (chars input) (after done out)
+  pub are : ArePieces input pieces done
+  pub front : List ℕ
+  pub whole : input ≡ front ++ rest
+  pub in_order : (more : List Piece) → AreInOrder (length front) more → AreInOrder 0 (pieces ++ more)
 
-pub continues_start : (all : List Directive) (input : List ℕ) → Continues all input all input []
-continues_start all input = record { done = []; are = refl; goes = λ out h. subst (Takes all input) (sym (after_nil out)) h }
+pub placed_start : (all : List Directive) (input : List ℕ) → Placed all input all input []
+placed_start all input = record { done = []; goes = λ out h. subst (Takes all (chars input)) (sym (after_nil out)) h; are = tt; front = []; whole = refl; in_order = λ more h. h }
 
-pub continues_passed : (all ds : List Directive) (d : Directive) (input left here rest : List ℕ) (texts : List (List ℕ)) → Continues all input (d ∷ ds) left texts → here ≡ after_blanks left → here ≢ [] → Passes d here None rest → Continues all input ds rest texts
-continues_passed all ds d input left here rest texts so is some passes = record {
-  done = so.done;
-  are = so.are;
-  goes = λ out h. so.goes out (passed (subst (λ (t : List ℕ). t ≢ []) is some) None rest out (subst (λ (t : List ℕ). Passes d t None rest) is passes) h refl);
+pub placed_passed : (all ds : List Directive) (d : Directive) (input rest here left : List ℕ) (pieces : List Piece) (so : Placed all input (d ∷ ds) rest pieces) → IsUtf8 rest → IsUtf8 here → IsUtf8 left → chars here ≡ after_blanks (chars rest) → chars here ≢ []
+    → Passes d (chars here) None (chars left) → Placed all input ds left pieces
+placed_passed all ds d input rest here left pieces so u v w is some passes =
+    let behind = here_front input so.front rest here so.whole u v is in
+    let beyond = left_front input behind.front here left d None behind.whole v w passes in
+    record {
+      done = so.done;
+      goes = λ out h. so.goes out (passed (subst (λ (t : List ℕ). t ≢ []) is some) None (chars left) out (subst (λ (t : List ℕ). Passes d t None (chars left)) is passes) h refl);
+      are = so.are;
+      front = beyond.front;
+      whole = beyond.whole;
+      in_order = λ more h. so.in_order more (order_weaker (length so.front) (length beyond.front) more (omega (arith, behind.longer, beyond.longer)) h);
+    }
+
+pub placed_taken : (all ds : List Directive) (d : Directive) (input rest here token left : List ℕ) (pieces : List Piece) (p : Piece) (so : Placed all input (d ∷ ds) rest pieces) → IsUtf8 rest → IsUtf8 here → IsUtf8 token → IsUtf8 left
+    → chars here ≡ after_blanks (chars rest) → chars here ≢ [] → Passes d (chars here) (Some (record { text = chars token; behind = chars left })) (chars left) → IsPiece input p (record { text = chars token; behind = chars left })
+    → p.start + (length token + length left) ≡ length input → p.end + length left ≡ length input → Placed all input ds left (pieces ++ p ∷ [])
+placed_taken all ds d input rest here token left pieces p so u v t w is some passes piece starts ends =
+    let behind = here_front input so.front rest here so.whole u v is in
+    let beyond = token_front input behind.front here token left d behind.whole v t w passes in
+    let bytes : length input ≡ length beyond.front + (length token + length left) = ap length beyond.whole ∙ length-append beyond.front (token ++ left) ∙ ap (λ n. length beyond.front + n) (length-append token left) in
+    let held : Token = record { text = chars token; behind = chars left } in
+    record {
+      done = so.done ++ held ∷ [];
+      goes = λ out h. subst (Takes all (chars input)) (after_token so.done held out)
+          (so.goes (with_token (Some held) out) (passed (subst (λ (t : List ℕ). t ≢ []) is some) (Some held) (chars left) out (subst (λ (t : List ℕ). Passes d t (Some held) (chars left)) is passes) h refl));
+      are = pieces_more input pieces so.done p held so.are piece;
+      front = beyond.front ++ token;
+      whole = beyond.whole ∙ sym (append_assoc beyond.front token left);
+      in_order = λ more h. subst (AreInOrder 0) (sym (append_assoc pieces (p ∷ []) more))
+          (so.in_order (p ∷ more) (omega (arith, behind.longer, beyond.longer, bytes, starts), order_weaker p.end (length (beyond.front ++ token)) more (omega (arith, bytes, ends, length-append beyond.front token)) h));
+    }
+
+placed_done : (all ds : List Directive) (input rest : List ℕ) (pieces : List Piece) → Placed all input ds rest pieces → Takes ds (chars rest) (Found []) → TakesPieces all input pieces
+placed_done all ds input rest pieces so h = record {
+  out = Found (so.done ++ []);
+  takes = so.goes (Found []) h;
+  are = subst (ArePieces input pieces) (sym (append-nil so.done)) so.are;
+  in_order = subst (AreInOrder 0) (append-nil pieces) (so.in_order [] tt);
 }
-
-pub continues_taken : (all ds : List Directive) (d : Directive) (input left here rest : List ℕ) (texts more : List (List ℕ)) (token : Token) → Continues all input (d ∷ ds) left texts → here ≡ after_blanks left → here ≢ [] → Passes d here (Some token) rest
-    → more ≡ texts ++ token.text ∷ [] → Continues all input ds rest more
-continues_taken all ds d input left here rest texts more token so is some passes same = record {
-  done = so.done ++ token ∷ [];
-  are = same ∙ ap (λ (t : List (List ℕ)). t ++ token.text ∷ []) so.are ∙ sym (map-append text_of so.done (token ∷ []));
-  goes = λ out h. subst (Takes all input) (after_token so.done token out)
-      (so.goes (with_token (Some token) out) (passed (subst (λ (t : List ℕ). t ≢ []) is some) (Some token) rest out (subst (λ (t : List ℕ). Passes d t (Some token) rest) is passes) h refl));
-}
-
-takes_done : (all ds : List Directive) (input left : List ℕ) (texts : List (List ℕ)) → Continues all input ds left texts → Takes ds left (Found []) → TakesTexts all input texts
-takes_done all ds input left texts so h = (Found (so.done ++ []), so.goes (Found []) h, so.are ∙ ap (map text_of) (sym (append-nil so.done)))
 
 -- where the directives end, where the input ends, and where it doesn't fit
-pub takes_end : (all : List Directive) (input left : List ℕ) (texts : List (List ℕ)) → Continues all input [] left texts → TakesTexts all input texts
-takes_end all input left texts so = takes_done all [] input left texts so refl
+pub placed_end : (all : List Directive) (input rest : List ℕ) (pieces : List Piece) → Placed all input [] rest pieces → TakesPieces all input pieces
+placed_end all input rest pieces so = placed_done all [] input rest pieces so refl
 
-pub takes_ended : (all ds : List Directive) (d : Directive) (input left here : List ℕ) (texts : List (List ℕ)) → Continues all input (d ∷ ds) left texts → here ≡ after_blanks left → here ≡ [] → TakesTexts all input texts
-takes_ended all ds d input left here texts so is none = takes_done all (d ∷ ds) input left texts so (ended (sym is ∙ none) refl)
+pub placed_ended : (all ds : List Directive) (d : Directive) (input rest here : List ℕ) (pieces : List Piece) → Placed all input (d ∷ ds) rest pieces → chars here ≡ after_blanks (chars rest) → chars here ≡ [] → TakesPieces all input pieces
+placed_ended all ds d input rest here pieces so is none = placed_done all (d ∷ ds) input rest pieces so (ended (sym is ∙ none) refl)
 
-pub takes_refused : (all ds : List Directive) (d : Directive) (input left here : List ℕ) (texts : List (List ℕ)) → Continues all input (d ∷ ds) left texts → here ≡ after_blanks left → here ≢ [] → Refuses d here → TakesTexts all input ([] ∷ [])
-takes_refused all ds d input left here texts so is some refuses =
-    (Mismatch (after_blanks left), so.goes (Mismatch (after_blanks left)) (refused (subst (λ (t : List ℕ). t ≢ []) is some) (subst (Refuses d) is refuses) refl), refl)
+pub placed_refused : (all ds : List Directive) (d : Directive) (input rest here : List ℕ) (pieces : List Piece) (p : Piece) → Placed all input (d ∷ ds) rest pieces → chars here ≡ after_blanks (chars rest) → chars here ≢ [] → Refuses d (chars here)
+    → IsPiece input p (record { text = []; behind = chars here }) → TakesPieces all input (p ∷ [])
+placed_refused all ds d input rest here pieces p so is some refuses piece = record {
+  out = Mismatch (chars here);
+  takes = so.goes (Mismatch (chars here)) (refused (subst (λ (t : List ℕ). t ≢ []) is some) (subst (Refuses d) is refuses) (ap Mismatch is));
+  are = (piece, tt);
+  in_order = (omega arith, tt);
+}
 
-pub scanned_texts : (input format : List ℕ) (ds : List Directive) (texts : List (List ℕ)) → Cuts format ds → TakesTexts ds input texts → ScannedTexts input format texts
-scanned_texts input format ds texts cut (out, takes, are) = (tokens_of out, record { directives = ds; out = out; cut = cut; takes = takes; tokens_are = refl }, are)
+pub scanned_pieces : (input format : List ℕ) (ds : List Directive) (pieces : List Piece) → Cuts format ds → TakesPieces ds input pieces → ScannedPieces input format pieces
+scanned_pieces input format ds pieces cut so = record {
+  tokens = tokens_of so.out;
+  scanned = record { directives = ds; out = so.out; cut = cut; takes = so.takes; tokens_are = refl };
+  are = so.are;
+  in_order = so.in_order;
+}
+
+pub scanned_texts : (input format : List ℕ) (pieces : List Piece) (texts : List (List ℕ)) → ScannedPieces input format pieces → texts ≡ map (piece_text input) pieces → ScannedTexts (chars input) format (map chars texts)
+scanned_texts input format pieces texts so is = (so.tokens, so.scanned, ap (map chars) is ∙ texts_are input pieces so.tokens so.are)
 
 -- the directives so far, and then those of the rest
 abbrev pub CutsOn : List ℕ → List ℕ → List Directive → Type 0

@@ -3,4 +3,5 @@ pub mod Inner
 pub mod Readings
 pub mod Scanned
 pub mod Sets
+pub mod Slices
 pub mod Tokens

@@ -1,4 +1,5 @@
 -- What the text of a token reads as, for each carried type: the value, or none where it doesn't read.
+use denote.Ref.{Bor}
 use Rattle.std.specs.Prelude.{◌≡◌, ◌≢◌, ℕ, ℤ, ◌^◌, ◌<◌, Bool, MatchBool, List, [], ◌∷◌, Option, MatchOption, IsSomeAnd, SomeIff, FitsSigned, String, string_bytes}
 use Rattle.std.specs.Str.{chars}
 use Rattle.std.specs.Str.Parse.{IsNumeral, digits_value, signed_digits_value, without_leading_plus, without_leading_sign, true_text, false_text}
@@ -23,3 +24,7 @@ ReadsChar text r = MatchOption r ((c : ℕ) → chars text ≢ c ∷ []) (λ c. 
 -- the text itself, whatever it is
 abbrev pub ReadsText : {A : Type 0} → List ℕ → Option (String A) → Type 0
 ReadsText text r = IsSomeAnd r (λ s. string_bytes s ≡ text)
+
+-- the text itself, lent
+abbrev pub ReadsSlice : List ℕ → Option (Bor (List ℕ)) → Type 0
+ReadsSlice text r = IsSomeAnd r (λ s. s.now ≡ text)

@@ -6,4 +6,5 @@ mod field;
 mod number;
 pub mod parse;
 mod read;
+mod slices;
 mod text;

@@ -1,15 +1,15 @@
 // The scan, its tokens, and typed readings of them.
-ghost use Rattle.std.specs.Prelude.{◌≡◌, ◌++◌, ◌∷◌, [], ℕ, List, length, map, OnOk, IfOk, string_bytes, Some, codes};
+ghost use Rattle.std.specs.Prelude.{◌≡◌, ◌++◌, length, map, IfOk, string_bytes, Some, codes};
 ghost use Rattle.std.specs.Iterator.{YieldsFirst, at_most};
 ghost use Rattle.std.specs.Str.{chars};
 ghost use Rattle.scan_fmt.specs.Scanned.{ScannedTexts, OneAnswer, SomeAnswer};
-ghost use Rattle.scan_fmt.specs.Inner.Parts.{directive_of, TakesTexts};
+ghost use Rattle.scan_fmt.specs.Slices.{ScannedPieces};
 ghost use Rattle.scan_fmt.specs.Tokens.{tokens_left, texts_left, ReadsNext};
 
 use crate::directive::{Directive, next_directive};
-use crate::field::Pass;
-pub use crate::read::{ReadHex, ReadToken};
-use crate::text::skip_blanks;
+pub use crate::read::{ReadHex, ReadSlice, ReadToken};
+use crate::slices::take_slices;
+pub use crate::slices::{Piece, Slices};
 use numerals::NoMemory;
 use std::alloc::Global;
 use std::error::Error;
@@ -94,57 +94,6 @@ impl Tokens {
     }
 }
 
-/// One token more.
-fn push_token(alloc: Global, tokens: &mut Vec<String>, token: &str) -> Result<(), NoMemory>
-    ensures { OnOk result (map chars (map string_bytes tokens.new.items) ≡ map chars (map string_bytes tokens.old.items) ++ chars token.now ∷ []) }
-{
-    let Ok(text) = String::from_str(alloc, token) else {
-        return Err(NoMemory);
-    };
-    if tokens.push(text).is_err() {
-        return Err(NoMemory);
-    }
-    Ok(())
-}
-
-/// The answer where the input doesn't fit: one empty token.
-fn mismatch(alloc: Global) -> Result<Vec<String>, NoMemory>
-    ensures { IfOk result (λ tokens. map chars (map string_bytes tokens.items) ≡ [] ∷ []) }
-{
-    let mut tokens = Vec::new(alloc);
-    if tokens.push(String::new(alloc)).is_err() {
-        return Err(NoMemory);
-    }
-    Ok(tokens)
-}
-
-/// The tokens that the directives take from the input.
-fn take_tokens(
-    alloc: Global,
-    directives: &[Directive<'_>],
-    input: &str,
-) -> Result<Vec<String>, NoMemory>
-    ensures { IfOk result (λ tokens. TakesTexts (map directive_of directives.now) (chars input.now) (map chars (map string_bytes tokens.items))) }
-{
-    let mut tokens = Vec::new(alloc);
-    let mut rest = input;
-    'directives: for directive in directives {
-        let here = skip_blanks(rest);
-        if here.is_empty() {
-            return Ok(tokens);
-        }
-        match directive.pass(here) {
-            Pass::Mismatch => return mismatch(alloc),
-            Pass::Passed(left) => rest = left,
-            Pass::Taken { token, rest: left } => {
-                push_token(alloc, &mut tokens, token)?;
-                rest = left;
-            }
-        }
-    }
-    Ok(tokens)
-}
-
 /// A format that is cut once, for the scans of many inputs.
 #[derive(Drop)]
 pub struct Format<'f> {
@@ -182,11 +131,21 @@ impl<'f> Format<'f> {
         Ok(Format { text, directives })
     }
 
+    /// The tokens that the format takes from the input, as slices of it.
+    pub fn scan_slices<'a>(&self, alloc: Global, input: &'a str) -> Result<Slices<'a>, NoMemory>
+        ensures input { IfOk result (λ s. s.input ≡ input.now) }
+        ensures pieces { IfOk result (λ s. ScannedPieces input.now self.now s.pieces) }
+        ensures place { IfOk result (λ s. s.place ≡ 0) }
+    {
+        take_slices(alloc, self.directives.as_slice(), input)
+    }
+
     /// The tokens that the format takes from the input.
     pub fn scan(&self, alloc: Global, input: &str) -> Result<Tokens, NoMemory>
         ensures { IfOk result (λ t. ScannedTexts (chars input.now) self.now (map chars (texts_left t))) }
     {
-        let tokens = take_tokens(alloc, self.directives.as_slice(), input)?;
+        let slices = self.scan_slices(alloc, input)?;
+        let tokens = slices.owned(alloc)?;
         let tokens = tokens.into_iter();
         Ok(Tokens { tokens })
     }
@@ -198,6 +157,16 @@ pub fn scan(alloc: Global, input: &str, format: &str) -> Result<Tokens, NoMemory
 {
     let format = Format::new(alloc, format)?;
     format.scan(alloc, input)
+}
+
+/// The tokens that the format takes from the input, as slices of it.
+pub fn scan_slices<'a>(alloc: Global, input: &'a str, format: &str) -> Result<Slices<'a>, NoMemory>
+    ensures input { IfOk result (λ s. s.input ≡ input.now) }
+    ensures pieces { IfOk result (λ s. ScannedPieces input.now (chars format.now) s.pieces) }
+    ensures place { IfOk result (λ s. s.place ≡ 0) }
+{
+    let format = Format::new(alloc, format)?;
+    format.scan_slices(alloc, input)
 }
 
 /// Over one input, one format gives one list of tokens.

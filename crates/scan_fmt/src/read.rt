@@ -1,7 +1,7 @@
 // What a token reads as: std's reading of integers and `bool`, one character, the token itself, and integers in base 16.
 ghost use Rattle.std.specs.Prelude.{ℕ, List, Option, string_bytes};
 ghost use Rattle.std.specs.Int.{w8, w16, w32, w64, w128};
-ghost use Rattle.scan_fmt.specs.Readings.{ReadsUnsigned, ReadsSigned, ReadsBool, ReadsChar, ReadsText};
+ghost use Rattle.scan_fmt.specs.Readings.{ReadsUnsigned, ReadsSigned, ReadsBool, ReadsChar, ReadsText, ReadsSlice};
 
 /// A type that a token may be read as.
 pub trait ReadToken: Sized {
@@ -11,6 +11,16 @@ pub trait ReadToken: Sized {
     /// The value that the token stands for, if it does. It takes no memory.
     fn read_token(token: String) -> Option<Self>
         ensures { reads (string_bytes token) result };
+}
+
+/// A type that a slice of the input may be read as, without memory.
+pub trait ReadSlice<'a>: Sized {
+    // what the text of a token reads as: a value, or none
+    ghost reads_slice: { List ℕ → Option Self → Type 0 };
+
+    /// The value that the token stands for, if it does. It takes no memory.
+    fn read_slice(token: &'a str) -> Option<Self>
+        ensures { reads_slice token.now result };
 }
 
 /// A type that a token may be read as in base 16.
@@ -139,6 +149,126 @@ impl ReadToken for String {
     ghost reads = { ReadsText };
 
     fn read_token(token: String) -> Option<Self> {
+        Some(token)
+    }
+}
+
+impl<'a> ReadSlice<'a> for u8 {
+    ghost reads_slice = { ReadsUnsigned 8 10 };
+
+    fn read_slice(token: &'a str) -> Option<Self> {
+        token.parse::<u8>().ok()
+    }
+}
+
+impl<'a> ReadSlice<'a> for u16 {
+    ghost reads_slice = { ReadsUnsigned 16 10 };
+
+    fn read_slice(token: &'a str) -> Option<Self> {
+        token.parse::<u16>().ok()
+    }
+}
+
+impl<'a> ReadSlice<'a> for u32 {
+    ghost reads_slice = { ReadsUnsigned 32 10 };
+
+    fn read_slice(token: &'a str) -> Option<Self> {
+        token.parse::<u32>().ok()
+    }
+}
+
+impl<'a> ReadSlice<'a> for u64 {
+    ghost reads_slice = { ReadsUnsigned 64 10 };
+
+    fn read_slice(token: &'a str) -> Option<Self> {
+        token.parse::<u64>().ok()
+    }
+}
+
+impl<'a> ReadSlice<'a> for u128 {
+    ghost reads_slice = { ReadsUnsigned 128 10 };
+
+    fn read_slice(token: &'a str) -> Option<Self> {
+        token.parse::<u128>().ok()
+    }
+}
+
+impl<'a> ReadSlice<'a> for usize {
+    ghost reads_slice = { ReadsUnsigned 64 10 };
+
+    fn read_slice(token: &'a str) -> Option<Self> {
+        token.parse::<usize>().ok()
+    }
+}
+
+impl<'a> ReadSlice<'a> for i8 {
+    ghost reads_slice = { ReadsSigned w8 10 };
+
+    fn read_slice(token: &'a str) -> Option<Self> {
+        token.parse::<i8>().ok()
+    }
+}
+
+impl<'a> ReadSlice<'a> for i16 {
+    ghost reads_slice = { ReadsSigned w16 10 };
+
+    fn read_slice(token: &'a str) -> Option<Self> {
+        token.parse::<i16>().ok()
+    }
+}
+
+impl<'a> ReadSlice<'a> for i32 {
+    ghost reads_slice = { ReadsSigned w32 10 };
+
+    fn read_slice(token: &'a str) -> Option<Self> {
+        token.parse::<i32>().ok()
+    }
+}
+
+impl<'a> ReadSlice<'a> for i64 {
+    ghost reads_slice = { ReadsSigned w64 10 };
+
+    fn read_slice(token: &'a str) -> Option<Self> {
+        token.parse::<i64>().ok()
+    }
+}
+
+impl<'a> ReadSlice<'a> for i128 {
+    ghost reads_slice = { ReadsSigned w128 10 };
+
+    fn read_slice(token: &'a str) -> Option<Self> {
+        token.parse::<i128>().ok()
+    }
+}
+
+impl<'a> ReadSlice<'a> for isize {
+    ghost reads_slice = { ReadsSigned w64 10 };
+
+    fn read_slice(token: &'a str) -> Option<Self> {
+        token.parse::<isize>().ok()
+    }
+}
+
+impl<'a> ReadSlice<'a> for bool {
+    ghost reads_slice = { ReadsBool };
+
+    fn read_slice(token: &'a str) -> Option<Self> {
+        token.parse::<bool>().ok()
+    }
+}
+
+impl<'a> ReadSlice<'a> for char {
+    ghost reads_slice = { ReadsChar };
+
+    fn read_slice(token: &'a str) -> Option<Self> {
+        token.parse::<char>().ok()
+    }
+}
+
+impl<'a> ReadSlice<'a> for &'a str {
+    ghost reads_slice = { ReadsSlice };
+
+    fn read_slice(token: &'a str) -> Option<Self> {
         Some(token)
     }
 }

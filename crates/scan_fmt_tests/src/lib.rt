@@ -5,3 +5,5 @@
 mod readings;
 #[cfg(test)]
 mod scans;
+#[cfg(test)]
+mod slices;

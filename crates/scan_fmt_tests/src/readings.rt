@@ -11,7 +11,7 @@ fn tokens_of(alloc: Global, word: &str) -> Result<Tokens, Fail> {
 }
 
 /// A reading as text: its value, or why there is none.
-fn shown<T: Display + Drop>(alloc: Global, reading: Result<T, ReadAs>) -> Result<String, Fail> {
+pub fn shown<T: Display + Drop>(alloc: Global, reading: Result<T, ReadAs>) -> Result<String, Fail> {
     match reading {
         Ok(value) => Ok(format!(in alloc; "{value}")?),
         Err(why) => Ok(format!(in alloc; "{why:?}")?),

@@ -1,5 +1,5 @@
 -- What the program's own types for the parts of a format stand for, and what one directive does to an input.
-use Rattle.std.specs.Prelude.{◌≡◌, ℕ, List, map, Option, None, Some}
+use Rattle.std.specs.Prelude.{ℕ, List, Option, None, Some}
 use Rattle.std.specs.Str.{chars}
 use Rattle.scan_fmt.specs.declared.directive.Run.{Run as RunPart}
 use Rattle.scan_fmt.specs.declared.directive.Run.TheVariants.{Until as UntilPart, Solid as SolidPart, Among as AmongPart}
@@ -14,7 +14,9 @@ use Rattle.scan_fmt.specs.declared.directive.Directive.TheVariants.{Literal, Fie
 use Rattle.scan_fmt.specs.declared.field.Pass.{Pass}
 use Rattle.scan_fmt.specs.declared.field.Pass.TheVariants.{Mismatch, Passed, Taken}
 use Rattle.scan_fmt.specs.Directives.{Run, Until, Solid, Among, Notation, Decimal, Hexadecimal, Float, Shape, Characters, Number, Directive, Exactly, Field, AtEnd}
-use Rattle.scan_fmt.specs.Scanned.{Token, Outcome, Passes, Refuses, Takes as TakesFrom, tokens_of}
+use Rattle.scan_fmt.specs.declared.slices.Piece.{Piece}
+use Rattle.scan_fmt.specs.Slices.{ArePieces, AreInOrder}
+use Rattle.scan_fmt.specs.Scanned.{Outcome, Passes, Refuses, Takes as TakesFrom, tokens_of}
 
 abbrev pub run_of : RunPart → Run
 run_of (UntilPart stop) = Until stop
@@ -45,6 +47,9 @@ IsPass d input Mismatch = Refuses d input
 IsPass d input (Passed rest) = Passes d input None (chars rest.now)
 IsPass d input (Taken token rest) = Passes d input (Some (record { text = chars token.now; behind = chars rest.now })) (chars rest.now)
 
--- these are the texts of the tokens that the directives come to over the input
-abbrev pub TakesTexts : List Directive → List ℕ → List (List ℕ) → Type 0
-TakesTexts ds input texts = (out : Outcome) × TakesFrom ds input out × (texts ≡ map (λ (t : Token). t.text) (tokens_of out))
+-- these are the pieces of the tokens that the directives come to over the input
+pub record TakesPieces (ds : List Directive) (input : List ℕ) (pieces : List Piece) : Type 0 where
+  pub out : Outcome
+  pub takes : TakesFrom ds (chars input) out
+  pub are : ArePieces input pieces (tokens_of out)
+  pub in_order : AreInOrder 0 pieces
