@@ -1,5 +1,5 @@
 -- Values as plain data, and what they are to a printf format.
-use Rattle.std.specs.Prelude.{ℕ, ℤ, ◌^◌, ◌<◌, List, FitsSigned, IsUtf8, None, Err, string_bytes}
+use Rattle.std.specs.Prelude.{ℕ, ℤ, ◌^◌, ◌<◌, List, [], ◌∷◌, FitsSigned, IsUtf8, None, Err, string_bytes}
 use Rattle.std.specs.Char.{IsScalar}
 use mir.Syntax.{w8, w16, w32, w64}
 use Rattle.sprintf.specs.declared.PrintfError.TheVariants.{WrongType}
@@ -91,3 +91,8 @@ datum_of (OfChar c) = character c
 -- What a value is to a printf format.
 abbrev pub value_meaning : Value → Meaning
 value_meaning value = printf_meaning (kind_of value) (datum_of value)
+
+-- What values of these kinds are, one by one, by what one value of a kind is.
+abbrev pub each_of : {A : Type 0} → (Kind → Datum → A) → List Kind → List Datum → List A
+each_of meaning (kind ∷ kinds) (value ∷ values) = meaning kind value ∷ each_of meaning kinds values
+each_of meaning _ _ = []

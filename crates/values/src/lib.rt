@@ -2,6 +2,7 @@
 #![tactic(auto)]
 
 mod kind;
+mod templates;
 mod value;
 mod word;
 

@@ -1,0 +1,4 @@
+pub mod Dialect
+pub mod Fault
+pub mod Inner
+pub mod Prints

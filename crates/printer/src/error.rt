@@ -1,0 +1,38 @@
+// Why a text is no template, and why a template has no text.
+
+/// In which dialect a text is no template.
+#[derive(Clone, Copy, Debug, PartialEq, Eq)]
+pub enum TemplateFault {
+    Printf,
+    Formatx,
+}
+
+/// Why a text can't be printed by.
+#[derive(Clone, Copy, Debug, PartialEq, Eq)]
+pub enum PrinterError {
+    /// It isn't in the grammar of its dialect.
+    Template(TemplateFault),
+    NoMemory,
+}
+
+/// What is wrong where a template has no text for some values: three faults of printf, three of strfmt, three of formatx.
+#[derive(Clone, Copy, Debug, PartialEq, Eq)]
+pub enum RenderFault {
+    WrongType,
+    TooManyArgs,
+    NotEnoughArgs,
+    Invalid,
+    KeyError,
+    TypeError,
+    Parse,
+    MissingArgument,
+    UnsupportedTrait,
+}
+
+/// Why a template printed no text.
+#[derive(Clone, Copy, Debug, PartialEq, Eq)]
+pub enum TextError {
+    /// The first fault from the left.
+    Fault(RenderFault),
+    NoMemory,
+}

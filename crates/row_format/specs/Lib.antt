@@ -1,0 +1,6 @@
+pub mod Columns
+pub mod Fit
+pub mod Laws
+pub mod Plannable
+pub mod Planned
+pub mod Row

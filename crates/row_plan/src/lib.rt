@@ -1,0 +1,9 @@
+//! Plans rows: derives from a printf format the scanning format that reads rows back, and reads rows by it.
+#![tactic(auto)]
+
+mod error;
+mod plan;
+
+pub use error::{PlanError, RowError};
+pub use plan::{RowPlan, plan};
+pub use separation::Refused;
