@@ -6,11 +6,8 @@ use scan_fmt::parse::{ReadAs, ReadHex, ReadToken, Tokens, scan};
 use std::alloc::Global;
 use std::fmt::Display;
 
-/// The answer of a call, whose inputs still have their escapes. Formats with expressions wait.
+/// The answer of a call, whose inputs still have their escapes.
 pub fn answer(alloc: Global, call: &str, inputs: &[&str]) -> Result<Vec<String>, Fault> {
-    if inputs.first().is_some_and(|format| has_expression(format)) {
-        return Err(Fault::Waits);
-    }
     let inputs = undo_texts(alloc, inputs)?;
     match (call.as_bytes(), inputs.as_slice()) {
         (b"scan", [format, input]) => {
@@ -30,24 +27,6 @@ pub fn answer(alloc: Global, call: &str, inputs: &[&str]) -> Result<Vec<String>,
         }
         _ => Err(Fault::NoSuchCall),
     }
-}
-
-/// Whether a scan format holds a field of an expression: `{`, maybe a `*`, maybe digits, and `/`.
-fn has_expression(format: &str) -> bool {
-    let mut rest = format;
-    'braces: while let Some((_, after)) = rest.split_once('{') {
-        if let Some(escaped) = after.strip_prefix('{') {
-            rest = escaped;
-        } else {
-            let field = after.strip_prefix('*').unwrap_or(after);
-            let field = field.trim_start_matches(|c: char| c.is_ascii_digit());
-            if field.starts_with('/') {
-                return true;
-            }
-            rest = after;
-        }
-    }
-    false
 }
 
 /// Reads the next token at the named type.
