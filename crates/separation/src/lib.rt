@@ -1,6 +1,12 @@
 //! The separation rule: which printf formats can be read back, judged from their fields and kinds alone.
 #![tactic(auto)]
 
+mod conditions;
+mod pairs;
+mod table;
+
+pub use conditions::judge;
+
 /// Why a format can't be read back. Fields count from 1; `%%` is no field.
 #[derive(Clone, Copy, Debug, PartialEq, Eq)]
 pub enum Refused {

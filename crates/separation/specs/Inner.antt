@@ -1,0 +1,3 @@
+-- Words that private calls and proofs cite.
+pub mod Conditions
+pub mod Table
