@@ -6,6 +6,7 @@ ghost use Rattle.separation.specs.Inner.Conditions.{Breaks, MayJudge};
 
 use crate::Refused;
 use crate::pairs::{is_lossy, is_unpaired};
+use crate::touching::runs_on;
 use row_format::{RowField, RowFormat};
 use values::Kind;
 
@@ -29,7 +30,7 @@ impl Condition {
         match self {
             Condition::Paired => is_unpaired(columns, kinds),
             Condition::Whole => is_lossy(columns, kinds),
-            Condition::Apart => false,
+            Condition::Apart => runs_on(columns, kinds),
         }
     }
 

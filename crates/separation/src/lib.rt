@@ -2,8 +2,10 @@
 #![tactic(auto)]
 
 mod conditions;
+pub mod laws;
 mod pairs;
 mod table;
+mod touching;
 
 pub use conditions::judge;
 
