@@ -1,7 +1,6 @@
 -- Columns grow element by element.
 use Rattle.std.proofs.lemmas.List.{append-nil, take_rest}
 use Rattle.std.proofs.Common.{◌≡◌, ◌≤◌, ◌++◌, ℕ, length, take, drop, ◌-◌, get_or, arith, Bool, true, false, if◌then◌else◌, List, [], ◌∷◌, codes, None, Some, refl, ap, sym, ◌∙◌, append_assoc}
-use Rattle.std.specs.Str.{IsUtf8}
 use Rattle.sprintf.specs.declared.parser.FormatElement.{FormatElement}
 use Rattle.sprintf.specs.declared.parser.FormatElement.TheVariants.{Verbatim, Format}
 use Rattle.row_format.specs.Columns.{Column, Columns, is_percent, with_text, with_field, columns_of}
@@ -42,13 +41,9 @@ field_in_front (Format f) es rest more h k so =
       | false ↦ λ n. rw k (ap (λ (after : List ℕ). record { head = []; columns = record { field = f; after = after } ∷ (columns_of rest).columns }) (ap (λ (t : List ℕ). more ++ t) (no_head rest so) ∙ append-nil more))
     ] h
 
-pub texts_of_column : (e : FormatElement) (after : List ℕ) → IsUtf8 after → AreTexts (column_of e after)
-texts_of_column (Verbatim s) after u = tt
-texts_of_column (Format f) after u = (u, tt)
-
 pub texts_of_both : (a b : List Column) → AreTexts a → AreTexts b → AreTexts (a ++ b)
 texts_of_both [] b h k = k
-texts_of_both (c ∷ a) b h k = (h.0, texts_of_both a b h.1 k)
+texts_of_both (c ∷ a) b h k = (h.0, h.1, texts_of_both a b h.2 k)
 
 -- the field in front and its literal text join the columns so far
 pub one_more : (head : List ℕ) (done : List Column) (all left rest : List FormatElement) (none : FormatElement) (more text : List ℕ) → columns_of all ≡ record { head = head; columns = done ++ (columns_of left).columns }

@@ -1,11 +1,11 @@
 // A printf format as columns.
 ghost use Rattle.std.specs.Prelude.{◌≡◌, ◌≤◌, ◌++◌, ℕ, List, length, string_bytes, IfOk, OnOk, MatchOption, None, Some};
-ghost use Rattle.row_format.specs.Columns.{columns_of, with_text};
-ghost use Rattle.row_format.specs.Laws.{IsText};
+ghost use Rattle.row_format.specs.Columns.{columns_of, with_text, width_of};
+ghost use Rattle.row_format.specs.Laws.{AreTexts, IsText};
 ghost use Rattle.row_format.specs.Inner.Elements.{literal_of, BeginsWithField, column_of};
 
 use numerals::NoMemory;
-use sprintf::parser::{ConversionSpecifier, ConversionType, FormatElement};
+use sprintf::parser::{ConversionSpecifier, ConversionType, FormatElement, NumericParam};
 use std::alloc::Global;
 use std::marker::Model;
 
@@ -30,6 +30,17 @@ impl RowField {
         ensures { result.now ≡ self.now.field }
     {
         &self.field
+    }
+
+    /// The least length of the field's text, in bytes; a width that is written as a negative number counts as 0.
+    pub fn width(&self) -> usize
+        ensures width { result ≡ width_of self.now.field }
+        ensures narrow { result ≤ 2147483647 }
+    {
+        match self.field.width {
+            NumericParam::Literal(width) => usize::try_from(width).unwrap_or(0),
+            NumericParam::FromArgument => 0,
+        }
     }
 
     /// The literal text behind the field.
@@ -97,13 +108,16 @@ fn push_field(
     element: &FormatElement<'_>,
     after: String,
 ) -> Result<(), NoMemory>
-    ensures { OnOk result (fields.new.items ≡ fields.old.items ++ column_of element.now (string_bytes after)) }
+    ensures column { OnOk result (fields.new.items ≡ fields.old.items ++ column_of element.now (string_bytes after)) }
+    ensures text { OnOk result (AreTexts (column_of element.now (string_bytes after))) }
 {
     let FormatElement::Format(field) = element else {
         return Ok(());
     };
     let field = *field;
-    if fields.push(RowField { field, after }).is_err() {
+    let field = RowField { field, after };
+    let _width = field.width();
+    if fields.push(field).is_err() {
         return Err(NoMemory);
     }
     Ok(())

@@ -1,6 +1,6 @@
 use Rattle.std.proofs.Common.{◌≡◌, ◌++◌, ℕ, List, length-drop, ap, ◌∙◌, string_bytes, arith}
 use Rattle.std.proofs.lemmas.Str.{IsUtf8-string_bytes}
-use Rattle.row_format.proofs.Elements.{one_more, texts_of_column, texts_of_both}
+use Rattle.row_format.proofs.Elements.{one_more, texts_of_both}
 use Rattle.row_format.proofs.format.RowFormat.new.Goals as goal
 
 pub fields-smaller : goal.fields-smaller
@@ -13,9 +13,9 @@ fields-preserved c =
     let text = c.in_ok-rest-2.ensures.text in
     let same : string_bytes c.push_literals-in-len1-up.new.text ≡ text.0 = text.1 ∙ ap (λ (t : List ℕ). t ++ text.0) c.new-text.ensures.bytes in
     record {
-      whole = rw c.in_ok-push_field.ensures (one_more _ c.fields.fields.items c.args.elements.now c.fields.rest.now c.in_ok-rest-2.rest.now _ text.0 _ c.fields.invariant.whole c.fields.invariant.field c.in-len1-up.len_at_least text.2 c.in_ok-rest-2.ensures.field same);
+      whole = rw c.in_ok-push_field.ensures.column (one_more _ c.fields.fields.items c.args.elements.now c.fields.rest.now c.in_ok-rest-2.rest.now _ text.0 _ c.fields.invariant.whole c.fields.invariant.field c.in-len1-up.len_at_least text.2 c.in_ok-rest-2.ensures.field same);
       field = c.in_ok-rest-2.ensures.field;
-      texts = rw c.in_ok-push_field.ensures (texts_of_both _ _ c.fields.invariant.texts (texts_of_column _ _ (IsUtf8-string_bytes c.push_literals-in-len1-up.new.text)));
+      texts = rw c.in_ok-push_field.ensures.column (texts_of_both _ _ c.fields.invariant.texts c.in_ok-push_field.ensures.text);
     }
 
 pub returns-clause-text : goal.returns-clause-text
