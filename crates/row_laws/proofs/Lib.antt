@@ -1,2 +1,4 @@
 pub mod Literals
 pub mod Cutting
+pub mod Induction
+pub mod Texts
