@@ -3,7 +3,7 @@ use Rattle.std.proofs.Common.{eqb, cond, ◌≡◌, ◌≢◌, ◌<◌, ◌≤�
 use Rattle.std.specs.Char.{digit_value}
 use Rattle.std.specs.List.{AllByRecursion, list_all}
 use Rattle.std.specs.Str.{chars, IsUtf8, IsAscii}
-use Rattle.std.proofs.lemmas.Bool.{and_parts, eqb-true}
+use Rattle.std.proofs.lemmas.Bool.{cases_Bool, and_parts, eqb-true}
 use Rattle.std.proofs.lemmas.Bool.Decides.{nat_tests}
 use Rattle.std.proofs.lemmas.Str.{chars-append, chars-IsAscii, chars-nil, IsUtf8-from_ascii, IsUtf8-append, IsUtf8-nil}
 use Rattle.scan_fmt.specs.Directives.{is_blank, after_blanks, Directive, Exactly, Field, Shape, Number, Hexadecimal}
@@ -17,9 +17,11 @@ use Rattle.values.specs.Datum.{Datum, natural, integer}
 use Rattle.row_format.specs.Columns.{Column, Columns, field_text, columns_text, row_text, width_of}
 use Rattle.row_format.specs.Fit.{stop, IsFit, AreFit}
 use Rattle.row_format.specs.Laws.{IsText, AreTexts}
-use Rattle.row_format.specs.Plannable.{IsPaired, IsUnpaired, IsLossy, RunsOn, Never, IsPlannable, is_exact, trailing_spaces, BeginsTaken}
+use Rattle.row_format.specs.Plannable.{IsPaired, IsUnpaired, IsLossy, RunsOn, Never, IsPlannable, is_exact, trailing_spaces, text_behind, BeginsTaken}
 use Rattle.row_format.specs.Row.{StandsFor, Reads, EachReads}
 use Rattle.row_laws.specs.Inner.Directives.{exactly, limit_when, shape_by, shape_of, front_by, front_of, column_directives, planned_directives, AllBlank, BeginsSolid, Taken, FieldReads}
+use Rattle.row_laws.proofs.Cutting.{paired_of}
+use Rattle.row_laws.proofs.Texts.{field_utf8}
 
 -- White space in front changes nothing.
 takes_blank : (c : ℕ) (input : List ℕ) (ds : List Directive) (out : Outcome) → is_blank c ≡ true → Takes ds input out → Takes ds (c ∷ input) out
@@ -116,3 +118,38 @@ column_takes c kind value more ds tokens field after t take =
     let is : chars (field_text c.field kind value ++ (c.after ++ more)) ≡ t.blanks ++ (front_of c ++ (t.taken ++ (trail ++ behind))) =
     chars-append (field_text c.field kind value) (c.after ++ more) field ∙ ap (λ (s : List ℕ). s ++ behind) t.whole ∙ regroup t.blanks (front_of c) t.taken trail behind in
     (token, t.reads, subst (λ (input : List ℕ). Takes (exactly (front_of c) ++ (Field true (shape_of c kind) ∷ later)) input (Found (token ∷ tokens))) (sym is) all)
+
+-- The directives of columns take from the columns' text tokens that read to the values.
+abbrev pub ReadsColumns : List Column → List Kind → List Datum → Type 0
+ReadsColumns cs kinds values = (tokens : List Token) × Takes (column_directives cs kinds) (chars (columns_text cs kinds values)) (Found tokens) × EachReads cs kinds (map (λ (t : Token). t.text) tokens) values
+
+-- No field runs on over the values at hand.
+apart_here : (c : Column) (kind : Kind) (value : Datum) (cs : List Column) (kinds : List Kind) (values : List Datum) → ¬ RunsOn (c ∷ cs) (kind ∷ kinds) → AreFit (c ∷ cs) (kind ∷ kinds) (value ∷ values)
+    → (is_exact c.field kind ≡ true) ⊎ (¬ BeginsTaken c (text_behind c kind value cs kinds values))
+apart_here c kind value cs kinds values apart fit =
+    elim (cases_Bool (is_exact c.field kind)) [ inl exact ↦ inl exact | inr inexact ↦ inr (λ begins. apart (inexact, (value, values, fit, begins))) ]
+
+columns_take : FieldReads → (cs : List Column) (kinds : List Kind) (values : List Datum) → AreTexts cs → Never IsUnpaired cs kinds → Never IsLossy cs kinds → Never RunsOn cs kinds → AreFit cs kinds values
+    → ReadsColumns cs kinds values × IsUtf8 (columns_text cs kinds values)
+columns_take fields [] [] [] texts pairs whole apart fit = (([], refl, tt), IsUtf8-nil)
+columns_take fields [] [] (value ∷ values) texts pairs whole apart fit = absurd fit
+columns_take fields [] (kind ∷ kinds) values texts pairs whole apart fit = absurd (pairs tt)
+columns_take fields (c ∷ cs) [] values texts pairs whole apart fit = absurd (pairs tt)
+columns_take fields (c ∷ cs) (kind ∷ kinds) [] texts pairs whole apart fit = absurd fit
+columns_take fields (c ∷ cs) (kind ∷ kinds) (value ∷ values) texts pairs whole apart fit =
+    let rest = columns_take fields cs kinds values texts.2 pairs.1 whole.1 apart.1 fit.1 in
+    let more = columns_text cs kinds values in
+    let field : IsUtf8 (field_text c.field kind value) = field_utf8 c kind value whole.0 fit.0 in
+    let behind : IsUtf8 (c.after ++ more) = IsUtf8-append c.after more texts.0 rest.1 in
+    let taken = fields c kind value (c.after ++ more) (paired_of c kind pairs.0) whole.0 fit.0 behind (apart_here c kind value cs kinds values apart.0 fit) in
+    let one = column_takes c kind value more (column_directives cs kinds) rest.0.0 field texts.0 taken rest.0.1 in
+    ((one.0 ∷ rest.0.0, one.2, (fit.0.0, one.1, rest.0.2)), IsUtf8-append (field_text c.field kind value) (c.after ++ more) field behind)
+
+-- The planned directives take from a row tokens that read to its values.
+pub row_takes : FieldReads → (format : Columns) (kinds : List Kind) (values : List Datum) → IsText format → IsPlannable format.columns kinds → AreFit format.columns kinds values
+    → (tokens : List Token) × Takes (planned_directives format kinds) (chars (row_text format kinds values)) (Found tokens) × EachReads format.columns kinds (map (λ (t : Token). t.text) tokens) values
+row_takes fields format kinds values text plan fit =
+    let rest = columns_take fields format.columns kinds values text.1 plan.paired plan.whole plan.apart fit in
+    let more = columns_text format.columns kinds values in
+    (rest.0.0, subst (λ (input : List ℕ). Takes (planned_directives format kinds) input (Found rest.0.0)) (sym (chars-append format.head more text.0))
+    (takes_exactly (chars format.head) (chars more) (column_directives format.columns kinds) (Found rest.0.0) rest.0.1), rest.0.2)
