@@ -1,0 +1,2 @@
+-- One field is read back.
+pub mod Spaces
