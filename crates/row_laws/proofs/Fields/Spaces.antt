@@ -52,6 +52,9 @@ plain_chars xs h = chars-IsAscii xs (ascii_from xs (plain_low xs h))
 pub spaces_chars : (n : ℕ) (rest : List ℕ) → chars (replicate n 32 ++ rest) ≡ replicate n 32 ++ chars rest
 spaces_chars n rest = chars-append (replicate n 32) rest (IsUtf8-from_ascii _ (spaces_ascii n)) ∙ ap (λ (x : List ℕ). x ++ chars rest) (chars-IsAscii (replicate n 32) (spaces_ascii n))
 
+pub spaces_utf8 : (n : ℕ) → IsUtf8 (replicate n 32)
+spaces_utf8 n = IsUtf8-from_ascii _ (spaces_ascii n)
+
 pub only_spaces_chars : (n : ℕ) → chars (replicate n 32) ≡ replicate n 32
 only_spaces_chars n = chars-IsAscii (replicate n 32) (spaces_ascii n)
 
