@@ -19,6 +19,10 @@ use Rattle.row_laws.proofs.Fields.Standing.{Standing}
 abbrev pub filled : Bool → Bool → ℕ → List ℕ → List ℕ → List ℕ
 filled left pads room lead digits = cond left (lead ++ digits ++ encode_utf8_all (replicate room 32)) (cond pads (lead ++ encode_utf8_all (replicate room 48) ++ digits) (encode_utf8_all (replicate room 32) ++ lead ++ digits))
 
+-- a prefix, where there is one
+abbrev pub when : Bool → List ℕ → List ℕ
+when alt prefix = cond alt prefix []
+
 record Layout (left pads : Bool) (room : ℕ) (lead digits text : List ℕ) : Type 0 where
   before : ℕ
   zeros : ℕ
