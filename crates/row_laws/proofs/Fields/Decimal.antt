@@ -14,7 +14,7 @@ use Rattle.row_format.specs.Plannable.{by_bits}
 use Rattle.row_laws.specs.Inner.Directives.{limit_when}
 use Rattle.row_laws.proofs.Fields.Longest.{decimal_longest}
 use Rattle.row_laws.proofs.Fields.Digits.{Body, numeral_body, zeros_body, digits_up, digits_signed, digits_kept}
-use Rattle.row_laws.proofs.Fields.Standing.{Standing}
+use Rattle.row_laws.proofs.Fields.Shown.{Standing}
 use Rattle.row_laws.proofs.Fields.Layout.{filled, Parts, Full, number_standing}
 
 reads_nat : (bits n : ℕ) (t : List ℕ) → Body 10 n t → n < 2 ^ bits → ReadsUnsigned bits 10 t (Some n)

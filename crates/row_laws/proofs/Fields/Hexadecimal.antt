@@ -14,7 +14,7 @@ use Rattle.row_laws.specs.Inner.Directives.{limit_when, upper_limit}
 use Rattle.row_laws.proofs.Fields.Spaces.{AllPlain}
 use Rattle.row_laws.proofs.Fields.Longest.{hexadecimal_longest}
 use Rattle.row_laws.proofs.Fields.Digits.{Body, numeral_body, zeros_body, body_stands, digits_prefixed}
-use Rattle.row_laws.proofs.Fields.Standing.{Standing}
+use Rattle.row_laws.proofs.Fields.Shown.{Standing}
 use Rattle.row_laws.proofs.Fields.Layout.{filled, when, Parts, number_standing}
 use Rattle.row_laws.proofs.Fields.Decimal.{Exact, full_from}
 

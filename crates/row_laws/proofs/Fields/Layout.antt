@@ -13,7 +13,7 @@ use Rattle.row_format.specs.Row.{Reads}
 use Rattle.row_laws.proofs.Fields.Spaces.{AllPlain, each_append, plain_solid, plain_utf8, plain_chars, fills_are, Laid}
 use Rattle.row_laws.proofs.Fields.Longest.{EndsTaken}
 use Rattle.row_laws.proofs.Fields.Digits.{digits_plain}
-use Rattle.row_laws.proofs.Fields.Standing.{Standing}
+use Rattle.row_laws.proofs.Fields.Shown.{Standing}
 
 -- the text of a number's field, by its flags
 abbrev pub filled : Bool → Bool → ℕ → List ℕ → List ℕ → List ℕ

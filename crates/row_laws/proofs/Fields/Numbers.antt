@@ -11,7 +11,7 @@ use Rattle.values.specs.Datum.{Datum, natural, integer, IsOfKind}
 use Rattle.row_format.specs.Plannable.{is_number, Converts, by_bits, greatest_digits}
 use Rattle.row_format.specs.Row.{StandsFor}
 use Rattle.row_laws.specs.Inner.Directives.{shape_by, front_by}
-use Rattle.row_laws.proofs.Fields.Standing.{Standing}
+use Rattle.row_laws.proofs.Fields.Shown.{Standing}
 use Rattle.row_laws.proofs.Fields.Layout.{filled, when}
 use Rattle.row_laws.proofs.Fields.Decimal.{Exact, plus_sign, natural_decimal, positive_decimal, negative_decimal}
 use Rattle.row_laws.proofs.Fields.Octal.{octal}

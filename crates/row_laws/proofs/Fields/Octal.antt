@@ -11,7 +11,7 @@ use Rattle.row_format.specs.Row.{Reads}
 use Rattle.row_laws.specs.Inner.Directives.{limit_when}
 use Rattle.row_laws.proofs.Fields.Longest.{decimal_longest}
 use Rattle.row_laws.proofs.Fields.Digits.{Body, numeral_body, zeros_body, body_stands, digits_up, digits_signed, digits_kept}
-use Rattle.row_laws.proofs.Fields.Standing.{Standing}
+use Rattle.row_laws.proofs.Fields.Shown.{Standing}
 use Rattle.row_laws.proofs.Fields.Layout.{filled, when, Parts, number_standing}
 use Rattle.row_laws.proofs.Fields.Decimal.{Exact, full_from}
 

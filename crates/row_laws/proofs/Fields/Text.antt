@@ -17,7 +17,7 @@ use Rattle.row_format.specs.Row.{Reads}
 use Rattle.row_laws.specs.Inner.Directives.{text_shape}
 use Rattle.row_laws.proofs.Fields.Spaces.{AllSolid, fills_are, Laid}
 use Rattle.row_laws.proofs.Fields.Longest.{EndsTaken, run_longest}
-use Rattle.row_laws.proofs.Fields.Standing.{Standing}
+use Rattle.row_laws.proofs.Fields.Shown.{Standing}
 
 -- the text of a word's or a character's field, by its flag
 abbrev pub filled_text : Bool → ℕ → List ℕ → List ℕ
