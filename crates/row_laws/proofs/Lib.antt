@@ -4,3 +4,4 @@ pub mod Induction
 pub mod Texts
 pub mod OneList
 pub mod Reading
+pub mod Fields
