@@ -1,13 +1,13 @@
 -- What the planned directives take from a printed row, column by column.
-use Rattle.std.proofs.Common.{eqb, cond, ◌≡◌, ◌≢◌, ◌<◌, ◌≤◌, ◌⊎◌, ◌-◌, ℕ, Bool, true, false, List, [], ◌∷◌, ◌++◌, length, map, Option, Some, None, sym, ap, subst, refl, inl, inr, ◌∙◌, arith, append_assoc}
+use Rattle.std.proofs.Common.{eqb, cond, ◌≡◌, ◌<◌, ◌⊎◌, ◌-◌, ℕ, Bool, true, false, List, [], ◌∷◌, ◌++◌, map, Option, Some, None, sym, ap, subst, refl, inl, inr, ◌∙◌, arith, append_assoc}
 use Rattle.std.specs.Char.{digit_value}
 use Rattle.std.specs.List.{AllByRecursion, list_all}
 use Rattle.std.specs.Str.{chars, IsUtf8, IsAscii}
 use Rattle.std.proofs.lemmas.Bool.{cases_Bool, and_parts, eqb-true}
 use Rattle.std.proofs.lemmas.Bool.Decides.{nat_tests}
-use Rattle.std.proofs.lemmas.Str.{chars-append, chars-IsAscii, chars-nil, IsUtf8-from_ascii, IsUtf8-append, IsUtf8-nil}
-use Rattle.scan_fmt.specs.Directives.{is_blank, after_blanks, Directive, Exactly, Field, Shape, Number, Hexadecimal}
-use Rattle.scan_fmt.specs.Scanned.{IsLongest, MayTake, IsNumber, IsPrefixed, Token, token_text, Outcome, Found, Passes, Step, passed, Takes}
+use Rattle.std.proofs.lemmas.Str.{chars-append, chars-IsAscii, IsUtf8-append, IsUtf8-nil}
+use Rattle.scan_fmt.specs.Directives.{is_blank, Directive, Exactly, Field, Shape, Number, Hexadecimal}
+use Rattle.scan_fmt.specs.Scanned.{IsLongest, MayTake, Token, token_text, Outcome, Found, passed, Takes}
 use Rattle.scan_fmt.proofs.Characters.{ascii_from}
 use Rattle.scan_fmt.proofs.Digits.{Form, bare, with_x, with_0x, form_of, each_weaker}
 use Rattle.sprintf.specs.declared.parser.ConversionType.{ConversionType}
@@ -15,9 +15,9 @@ use Rattle.sprintf.specs.declared.parser.ConversionType.TheVariants.{HexIntUpper
 use Rattle.values.specs.declared.kind.Kind.{Kind}
 use Rattle.values.specs.Datum.{Datum, natural, integer}
 use Rattle.row_format.specs.Columns.{Column, Columns, field_text, columns_text, row_text, width_of}
-use Rattle.row_format.specs.Fit.{stop, IsFit, AreFit}
+use Rattle.row_format.specs.Fit.{stop, AreFit}
 use Rattle.row_format.specs.Laws.{IsText, AreTexts}
-use Rattle.row_format.specs.Plannable.{IsPaired, IsUnpaired, IsLossy, RunsOn, Never, IsPlannable, is_exact, trailing_spaces, text_behind, BeginsTaken}
+use Rattle.row_format.specs.Plannable.{IsUnpaired, IsLossy, RunsOn, Never, IsPlannable, is_exact, trailing_spaces, text_behind, BeginsTaken}
 use Rattle.row_format.specs.Row.{StandsFor, Reads, EachReads}
 use Rattle.row_laws.specs.Inner.Directives.{exactly, limit_when, shape_by, shape_of, front_by, front_of, column_directives, planned_directives, AllBlank, BeginsSolid, Taken, FieldReads}
 use Rattle.row_laws.proofs.Cutting.{paired_of}
@@ -151,5 +151,5 @@ pub row_takes : FieldReads → (format : Columns) (kinds : List Kind) (values : 
 row_takes fields format kinds values text plan fit =
     let rest = columns_take fields format.columns kinds values text.1 plan.paired plan.whole plan.apart fit in
     let more = columns_text format.columns kinds values in
-    (rest.0.0, subst (λ (input : List ℕ). Takes (planned_directives format kinds) input (Found rest.0.0)) (sym (chars-append format.head more text.0))
-    (takes_exactly (chars format.head) (chars more) (column_directives format.columns kinds) (Found rest.0.0) rest.0.1), rest.0.2)
+    let take = takes_exactly (chars format.head) (chars more) (column_directives format.columns kinds) (Found rest.0.0) rest.0.1 in
+    (rest.0.0, subst (λ (input : List ℕ). Takes (planned_directives format kinds) input (Found rest.0.0)) (sym (chars-append format.head more text.0)) take, rest.0.2)

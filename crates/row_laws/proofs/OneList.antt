@@ -9,12 +9,11 @@ use Rattle.std.proofs.lemmas.Str.{encodes-chars}
 use Rattle.sprintf.specs.declared.parser.ConversionType.{ConversionType}
 use Rattle.sprintf.specs.declared.parser.ConversionType.TheVariants.{DecInt, OctInt, HexIntLower, HexIntUpper, Char as CharConversion, String as StringConversion}
 use Rattle.values.specs.declared.kind.Kind.{Kind}
-use Rattle.values.specs.declared.kind.Kind.TheVariants.{U8, U16, U32, U64, Usize, I8, I16, I32, I64, Isize, Word, Char}
+use Rattle.values.specs.declared.kind.Kind.TheVariants.{U8, U16, U32, U64, Usize, I8, I16, I32, I64, Isize, Word}
 use Rattle.values.specs.Datum.{Datum, natural, integer, word, character, IsOfKind}
-use Rattle.row_format.specs.Columns.{Column}
 use Rattle.row_format.specs.Laws.{ReadsToOneList}
 use Rattle.row_format.specs.Plannable.{by_bits}
-use Rattle.row_format.specs.Row.{StandsFor, ReadsDecimal, IsTextOf, Reads, EachReads}
+use Rattle.row_format.specs.Row.{StandsFor, ReadsDecimal, IsTextOf, Reads}
 
 -- At one width two's complement is injective.
 same_signed : (w : Width) (y z : ℤ) → FitsSigned w y → FitsSigned w z → cast_unsigned w y ≡ cast_unsigned w z → y ≡ z

@@ -4,12 +4,8 @@ use Rattle.std.specs.Str.{chars}
 use Rattle.scan_fmt.specs.Scanned.{Token, Found, Scanned, ScannedTexts}
 use Rattle.scan_fmt.proofs.OneAnswer.{one_answer}
 use Rattle.scan_fmt.proofs.SomeAnswer.{some_answer}
-use Rattle.values.specs.declared.kind.Kind.{Kind}
-use Rattle.values.specs.Datum.{Datum}
-use Rattle.row_format.specs.Columns.{Columns, row_text}
-use Rattle.row_format.specs.Fit.{AreFit}
-use Rattle.row_format.specs.Laws.{IsText, ReadsBack, HasOneList}
-use Rattle.row_format.specs.Plannable.{IsPlannable}
+use Rattle.row_format.specs.Columns.{row_text}
+use Rattle.row_format.specs.Laws.{ReadsBack, HasOneList}
 use Rattle.row_format.specs.Planned.{planned_text}
 use Rattle.row_format.specs.Row.{EachReads}
 use Rattle.row_laws.specs.Inner.Directives.{FieldReads, planned_directives}

@@ -1,30 +1,25 @@
 -- The text of a field over a value that fits is UTF-8.
-use Rattle.std.proofs.Common.{cond, ◌≡◌, ◌≢◌, ◌<◌, ◌≤◌, ◌-◌, ◌+◌, ◌^◌, min, ℕ, zero, suc, ℤ, pos, negsuc, Bool, true, false, List, [], ◌∷◌, ◌++◌, length, take, replicate, Option, Some, None, Result, Ok, Err, encode_utf8, unsigned_abs, nat_lt, sym, ap, subst, refl, inl, inr, ◌∙◌, arith}
+use Rattle.std.proofs.Common.{cond, ◌≡◌, ◌<◌, ◌≤◌, ◌-◌, ◌+◌, ◌^◌, ℕ, zero, suc, ℤ, pos, negsuc, Bool, true, false, List, [], ◌∷◌, ◌++◌, length, replicate, Option, Some, None, Result, Ok, Err, encode_utf8, unsigned_abs, nat_lt, refl, arith}
 use Rattle.std.specs.Prelude.{FitsSigned}
 use Rattle.std.specs.Char.{IsScalar}
-use Rattle.std.specs.Fmt.Cut.{floor_char_boundary}
 use Rattle.std.specs.Int.{Width, w8, w16, w32, w64, w128, cast_unsigned}
 use Rattle.std.specs.List.{AllByRecursion}
 use Rattle.std.specs.Str.{IsUtf8, encode_utf8_all}
 use Rattle.std.proofs.Math.Facts.{Fits-of_z}
-use Rattle.std.proofs.Math.Seq.{take-length}
 use Rattle.std.proofs.Math.Utf8.{scalar, low_scalar}
-use Rattle.std.proofs.lemmas.Bool.{cases_eq, ltb-true}
-use Rattle.std.proofs.lemmas.Str.{IsCharBoundary-end, IsUtf8-append, IsUtf8-encode, IsUtf8-from_ascii, IsUtf8-nil}
-use mir.Val.{bits, hbits}
-use Rattle.numerals.specs.Numeral.{numeral}
+use Rattle.std.proofs.lemmas.Bool.{ltb-true}
+use Rattle.std.proofs.lemmas.Str.{IsUtf8-append, IsUtf8-encode, IsUtf8-from_ascii, IsUtf8-nil}
+use mir.Val.{bits}
 use Rattle.numerals.proofs.Reading.{numeral-IsUtf8}
 use Rattle.sprintf.specs.declared.PrintfError.{PrintfError}
 use Rattle.sprintf.specs.declared.PrintfError.TheVariants.{WrongType}
 use Rattle.sprintf.specs.declared.parser.ConversionSpecifier.{ConversionSpecifier}
 use Rattle.sprintf.specs.declared.parser.ConversionType.{ConversionType}
 use Rattle.sprintf.specs.declared.parser.ConversionType.TheVariants.{DecInt, OctInt, HexIntLower, HexIntUpper, Char as CharConversion, String as StringConversion}
-use Rattle.sprintf.specs.declared.parser.NumericParam.{NumericParam}
-use Rattle.sprintf.specs.declared.parser.NumericParam.TheVariants.{Literal, FromArgument}
+use Rattle.sprintf.specs.declared.parser.NumericParam.TheVariants.{Literal}
 use Rattle.sprintf.specs.Carried.{character_where, signed_character}
 use Rattle.sprintf.specs.Field.{filled_number, filled_word, number_of, with_number, number_text, unsigned_text, signed_text, character_text, word_text, prefix_of, digits_of, sign_of, cut_to}
 use Rattle.sprintf.specs.Meaning.{by_conversion}
-use Rattle.sprintf.proofs.Cut.{cut_is}
 use Rattle.scan_fmt.proofs.Characters.{ascii_from}
 use Rattle.values.specs.declared.kind.Kind.{Kind}
 use Rattle.values.specs.declared.kind.Kind.TheVariants.{U8, U16, U32, U64, Usize, I8, I16, I32, I64, Isize, Word, Char}
@@ -32,6 +27,8 @@ use Rattle.values.specs.Datum.{Datum, natural, integer, word, character}
 use Rattle.row_format.specs.Columns.{Column, field_text, text_or_none}
 use Rattle.row_format.specs.Fit.{IsFit}
 use Rattle.row_format.specs.Plannable.{IsLossy}
+use Rattle.row_laws.proofs.Fields.Printed.{precise}
+use Rattle.row_laws.proofs.Fields.Text.{uncut}
 
 -- The text of an answer is UTF-8.
 abbrev IsText : Result (List ℕ) PrintfError → Type 0
@@ -111,14 +108,10 @@ signed_character_utf8 f (pos c) fits = character_utf8 f c (low_scalar c (omega (
 signed_character_utf8 f (negsuc n) fits = IsUtf8-nil
 
 -- A word that fits isn't cut.
-uncut : (text : List ℕ) → length text ≤ 2147483647 → cut_to 2147483647 text ≡ text
-uncut text short =
-    ap (λ n. take n text) (cut_is text (length text) 2147483647 (IsCharBoundary-end text) short (λ k more within at. absurd (omega (arith, at.0)))) ∙ take-length text
-
 word_utf8 : (f : ConversionSpecifier) (text : List ℕ) → f.precision ≡ Literal (pos 2147483647) → length text ≤ 2147483647 → IsUtf8 text → IsText (word_text f text)
-word_utf8 f text precise short utf8 =
+word_utf8 f text whole short utf8 =
     with_number_utf8 (number_of f.width) (λ width. with_number (number_of f.precision) (λ precision. Ok (filled_word f (width - length (cut_to precision text)) (cut_to precision text))))
-    (λ width. rw (precise, uncut text short) (word_by f.left_adj (width - length text) text utf8))
+    (λ width. rw (whole, uncut 2147483647 text short) (word_by f.left_adj (width - length text) text utf8))
 
 -- The text of the conversion's answer, where each of the three is UTF-8.
 answer : (v : ConversionType) (a b d : Result (List ℕ) PrintfError) → IsText a → IsText b → IsText d → IsText (by_conversion v a b d)
@@ -165,12 +158,6 @@ integer_utf8 f w z h = signed_utf8 f.conversion_type f z (cast_unsigned w z) (ab
 only_signed : (f : ConversionSpecifier) (w : Width) (z : ℤ) → FitsSigned w z → IsText (by_conversion f.conversion_type (signed_text f.conversion_type f z (cast_unsigned w z)) Refused Refused)
 only_signed f w z h = answer f.conversion_type (signed_text f.conversion_type f z (cast_unsigned w z)) Refused Refused (integer_utf8 f w z h) IsUtf8-nil IsUtf8-nil
 
--- A precision that cuts no word.
-precise : (p : NumericParam) → ¬ (p ≢ Literal (pos 2147483647)) → p ≡ Literal (pos 2147483647)
-precise (Literal (pos n)) h = elim (cases_eq n 2147483647) [ inl e ↦ ap (λ m. Literal (pos m)) e | inr other ↦ absurd (h (λ e. other (let same : n ≡ 2147483647 = cc in same))) ]
-precise (Literal (negsuc n)) h = absurd (h (λ e. cc))
-precise FromArgument h = absurd (h (λ e. cc))
-
 -- The text of a field over a value that fits is UTF-8.
 pub field_utf8 : (c : Column) (kind : Kind) (value : Datum) → ¬ IsLossy (c ∷ []) (kind ∷ []) → IsFit c kind value → IsUtf8 (field_text c.field kind value)
 field_utf8 c U8 (natural n) whole fit = code_utf8 c.field (nat_lt n 128) n (let small : n < 2 ^ 8 = fit.0 in omega arith) (λ e. low_scalar n (omega (arith, ltb-true n 128 e)))
@@ -187,7 +174,7 @@ field_utf8 c I64 (integer z) whole fit = only_signed c.field w64 z fit.0
 field_utf8 c Isize (integer z) whole fit = only_signed c.field w64 z fit.0
 field_utf8 c Word (word text) whole fit =
     answer c.field.conversion_type Refused Refused (word_text c.field text) IsUtf8-nil IsUtf8-nil
-    (word_utf8 c.field text (precise c.field.precision (λ other. whole (refl, other))) fit.1.1 fit.0)
+    (word_utf8 c.field text (precise c.field.precision whole) fit.1.1 fit.0)
 field_utf8 c Char (character x) whole fit =
     answer c.field.conversion_type Refused (character_text c.field x) Refused IsUtf8-nil (character_utf8 c.field x fit.0) IsUtf8-nil
 field_utf8 c kind value whole fit = absurd fit.0
