@@ -21,7 +21,6 @@ use Rattle.row_laws.proofs.Fields.Decimal.{Exact}
 use Rattle.row_laws.proofs.Fields.Text.{filled_text, word_standing, character_standing}
 use Rattle.row_laws.proofs.Fields.Printed.{natural_text, integer_text, word_field, character_field, precise}
 use Rattle.row_laws.proofs.Fields.Numbers.{natural_standing, positive_standing, negative_standing}
-
 pub mod Spaces
 pub mod Longest
 pub mod Digits

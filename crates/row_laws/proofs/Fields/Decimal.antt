@@ -1,5 +1,5 @@
 -- A number in decimal.
-use Rattle.std.proofs.Common.{◌≡◌, ◌⊎◌, ◌<◌, ◌≤◌, ◌+◌, ◌-◌, ◌^◌, ℕ, suc, ℤ, pos, negsuc, Bool, true, false, cond, List, [], ◌∷◌, ◌++◌, length, replicate, Option, Some, sym, ap, subst, refl, inl, inr, ◌∙◌, arith, eqb, ne_eqb, unsigned_abs, FitsSigned, w8, w16, w32, w64}
+use Rattle.std.proofs.Common.{◌≡◌, ◌⊎◌, ◌<◌, ◌≤◌, ◌+◌, ◌-◌, ◌^◌, ℕ, suc, pos, negsuc, Bool, true, false, cond, List, [], ◌∷◌, ◌++◌, length, replicate, Option, Some, sym, ap, subst, refl, inl, inr, ◌∙◌, arith, eqb, ne_eqb, FitsSigned, w8, w16, w32, w64}
 use Rattle.std.specs.Char.{digit_value}
 use Rattle.std.specs.Int.{Width}
 use Rattle.std.specs.Str.Parse.{digits_value, without_leading_plus}

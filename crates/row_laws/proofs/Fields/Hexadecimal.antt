@@ -1,9 +1,8 @@
 -- A number in base 16. A scan takes the prefix `0x` and drops it; the prefix `0X` stands in front of what it takes.
-use Rattle.std.proofs.Common.{◌≡◌, ◌<◌, ◌≤◌, ◌+◌, ◌-◌, ◌^◌, ◌&&◌, ℕ, Bool, true, false, cond, List, [], ◌∷◌, ◌++◌, length, drop, replicate, Option, refl, subst, inl, inr, arith, eqb, ne_eqb}
+use Rattle.std.proofs.Common.{◌≡◌, ◌<◌, ◌≤◌, ◌+◌, ◌-◌, ◌^◌, ◌&&◌, ℕ, Bool, true, false, cond, List, [], ◌∷◌, ◌++◌, length, drop, replicate, Option, refl, subst, arith, eqb, ne_eqb}
 use Rattle.std.specs.Char.{digit_value}
 use Rattle.std.specs.Str.Parse.{AllDigits}
 use Rattle.numerals.specs.Numeral.{numeral, IsDigitText, text_value}
-use Rattle.sprintf.specs.declared.parser.ConversionType.{ConversionType}
 use Rattle.sprintf.specs.declared.parser.ConversionType.TheVariants.{HexIntLower, HexIntUpper}
 use Rattle.scan_fmt.specs.Directives.{Number, Hexadecimal}
 use Rattle.scan_fmt.specs.Scanned.{IsPrefixed, without_0x}

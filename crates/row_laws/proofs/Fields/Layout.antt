@@ -1,10 +1,9 @@
 -- A number's text: spaces, sign or prefix, zeros, digits, spaces.
-use Rattle.std.proofs.Common.{◌≡◌, ◌≢◌, ◌⊎◌, ◌<◌, ◌≤◌, ◌+◌, ◌-◌, ℕ, zero, suc, Bool, true, false, cond, List, [], ◌∷◌, ◌++◌, length, replicate, Option, sym, ap, subst, refl, inl, inr, ◌∙◌, arith, append_assoc, append-nil, length-append, encode_utf8_all}
-use Rattle.std.specs.List.{AllByRecursion}
+use Rattle.std.proofs.Common.{◌≡◌, ◌⊎◌, ◌<◌, ◌≤◌, ◌+◌, ◌-◌, ℕ, zero, suc, Bool, true, false, cond, List, [], ◌∷◌, ◌++◌, length, replicate, Option, sym, ap, refl, ◌∙◌, arith, append_assoc, append-nil, length-append, encode_utf8_all}
 use Rattle.std.specs.Str.Parse.{AllDigits}
 use Rattle.std.proofs.lemmas.List.{length-replicate}
 use Rattle.sprintf.specs.declared.parser.ConversionType.{ConversionType}
-use Rattle.scan_fmt.specs.Directives.{is_blank, Shape}
+use Rattle.scan_fmt.specs.Directives.{Shape}
 use Rattle.scan_fmt.specs.Scanned.{MayTake, IsLongest, token_text}
 use Rattle.values.specs.declared.kind.Kind.{Kind}
 use Rattle.values.specs.Datum.{Datum}
@@ -119,6 +118,6 @@ number_standing v kind value exact end shape S left pads width limit s front mid
       taken = mid ++ (replicate l.zeros 48 ++ digits);
       laid = number_laid s front mid digits S P parts left pads room text l;
       longest = λ rest ends. longest (mid ++ (replicate l.zeros 48 ++ digits)) rest (omega (arith, parts_length l.zeros mid digits, parts.some)) (parts.shape l.zeros)
-      (λ e. full_length s front mid digits S P parts left pads width text l (full e) ∙ sym is_limit) ends;
+          (λ e. full_length s front mid digits S P parts left pads width text l (full e) ∙ sym is_limit) ends;
       reads = parts.reads l.zeros;
     }

@@ -1,15 +1,13 @@
 -- A number's field, by its conversion.
-use Rattle.std.proofs.Common.{◌≡◌, ◌<◌, ◌≤◌, ◌-◌, ◌+◌, ◌^◌, ℕ, suc, ℤ, pos, negsuc, Bool, true, false, List, [], ◌∷◌, ◌++◌, length, Option, refl, arith, w8, w16, w32, w64}
+use Rattle.std.proofs.Common.{◌≡◌, ◌-◌, ◌+◌, ℕ, suc, pos, negsuc, Bool, true, false, List, [], ◌∷◌, length, Option, refl, arith, w8, w16, w32, w64}
 use Rattle.std.specs.Int.{cast_unsigned}
-use Rattle.numerals.specs.Numeral.{numeral}
 use Rattle.sprintf.specs.declared.parser.ConversionType.{ConversionType}
 use Rattle.sprintf.specs.declared.parser.ConversionType.TheVariants.{DecInt, OctInt, HexIntLower, HexIntUpper, Char as CharConversion, String}
 use Rattle.sprintf.specs.Field.{prefix_of, digits_of}
 use Rattle.values.specs.declared.kind.Kind.{Kind}
 use Rattle.values.specs.declared.kind.Kind.TheVariants.{Word, Char}
-use Rattle.values.specs.Datum.{Datum, natural, integer, IsOfKind}
-use Rattle.row_format.specs.Plannable.{is_number, Converts, by_bits, greatest_digits}
-use Rattle.row_format.specs.Row.{StandsFor}
+use Rattle.values.specs.Datum.{natural, integer, IsOfKind}
+use Rattle.row_format.specs.Plannable.{Converts, by_bits, greatest_digits}
 use Rattle.row_laws.specs.Inner.Directives.{shape_by, front_by}
 use Rattle.row_laws.proofs.Fields.Shown.{Standing}
 use Rattle.row_laws.proofs.Fields.Layout.{filled, when}

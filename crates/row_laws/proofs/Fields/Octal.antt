@@ -1,6 +1,6 @@
 -- A number in base 8, which a decimal field takes.
-use Rattle.std.proofs.Common.{◌≡◌, ◌<◌, ◌≤◌, ◌+◌, ◌-◌, ◌^◌, ℕ, Bool, true, false, cond, List, [], ◌∷◌, ◌++◌, length, replicate, Option, refl, arith}
-use Rattle.std.specs.Str.Parse.{AllDigits, without_leading_plus}
+use Rattle.std.proofs.Common.{◌≡◌, ◌<◌, ◌≤◌, ◌+◌, ◌-◌, ◌^◌, ℕ, Bool, true, false, List, [], ◌∷◌, ◌++◌, length, replicate, Option, refl, arith}
+use Rattle.std.specs.Str.Parse.{without_leading_plus}
 use Rattle.numerals.specs.Numeral.{numeral, IsDigitText, text_value}
 use Rattle.sprintf.specs.declared.parser.ConversionType.TheVariants.{OctInt}
 use Rattle.scan_fmt.specs.Directives.{Number, Decimal}

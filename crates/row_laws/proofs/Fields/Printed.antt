@@ -1,6 +1,6 @@
 -- What a field prints of a value that goes with it, as the parts that its field takes apart.
-use Rattle.std.proofs.Common.{◌≡◌, ◌≢◌, ◌⊎◌, ◌<◌, ◌≤◌, ◌-◌, ◌+◌, ℕ, ℤ, pos, negsuc, Bool, true, false, List, [], ◌++◌, length, nat_lt, Option, Some, None, Result, Ok, Err, sym, ap, subst, refl, inl, inr, ◌∙◌, unwrap_or, unsigned_abs, encode_utf8, w8, w16, w32, w64}
-use Rattle.std.specs.Int.{Width, cast_unsigned}
+use Rattle.std.proofs.Common.{◌≡◌, ◌≢◌, ◌≤◌, ◌-◌, ◌+◌, ℕ, ℤ, pos, negsuc, Bool, true, false, List, length, nat_lt, Option, Some, Result, Ok, Err, sym, ap, refl, inl, inr, ◌∙◌, unwrap_or, unsigned_abs, encode_utf8, w8, w16, w32, w64}
+use Rattle.std.specs.Int.{cast_unsigned}
 use Rattle.std.proofs.Math.Utf8.{scalar}
 use Rattle.std.proofs.lemmas.Bool.{cases_eq}
 use Rattle.sprintf.specs.declared.PrintfError.{PrintfError}

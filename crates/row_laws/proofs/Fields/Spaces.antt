@@ -1,8 +1,8 @@
 -- A field's text: spaces, its token, and spaces.
-use Rattle.std.proofs.Common.{◌≡◌, ◌≢◌, ◌⊎◌, ◌<◌, ◌≤◌, ◌==◌, ◌&&◌, not, ℕ, zero, suc, Bool, true, false, cond, List, [], ◌∷◌, ◌++◌, length, replicate, sym, ap, subst, refl, ◌∙◌, ⊎_elim, arith, chars, IsUtf8, IsAscii, append_assoc, encode_utf8_all, eqb, ne_eqb, eq-eqb, get_or}
+use Rattle.std.proofs.Common.{◌≡◌, ◌≢◌, ◌<◌, ◌==◌, ℕ, zero, suc, true, false, List, [], ◌∷◌, ◌++◌, length, replicate, sym, ap, subst, refl, ◌∙◌, arith, chars, IsUtf8, IsAscii, append_assoc, encode_utf8_all, eqb, ne_eqb, eq-eqb, get_or}
 use Rattle.std.specs.List.{AllByRecursion, list_all}
 use Rattle.std.specs.Str.{NonePass}
-use Rattle.std.proofs.lemmas.Str.{chars-append, chars-IsAscii, encodes-chars, IsUtf8-from_ascii, IsUtf8-append, encode_ascii, NoCharPasses-byte}
+use Rattle.std.proofs.lemmas.Str.{chars-append, chars-IsAscii, encodes-chars, IsUtf8-from_ascii, encode_ascii, NoCharPasses-byte}
 use Rattle.scan_fmt.specs.Directives.{is_blank}
 use Rattle.row_format.specs.Plannable.{trailing_spaces}
 

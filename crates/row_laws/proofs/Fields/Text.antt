@@ -1,5 +1,5 @@
 -- A word or a character.
-use Rattle.std.proofs.Common.{◌≡◌, ◌≢◌, ◌⊎◌, ◌<◌, ◌≤◌, ℕ, min, Bool, true, false, cond, List, [], ◌∷◌, ◌++◌, length, take, replicate, Option, Some, None, sym, ap, subst, refl, inl, inr, ◌∙◌, arith, append-nil, chars, IsUtf8, IsCharBoundary, encode_utf8, encode_utf8_all, take_all}
+use Rattle.std.proofs.Common.{◌≡◌, ◌⊎◌, ◌<◌, ◌≤◌, ℕ, min, Bool, true, false, cond, List, [], ◌∷◌, ◌++◌, length, take, replicate, Option, Some, None, sym, ap, refl, inl, inr, ◌∙◌, arith, append-nil, chars, IsUtf8, encode_utf8, encode_utf8_all, take_all}
 use Rattle.std.specs.List.{AllByRecursion}
 use Rattle.std.specs.Char.{IsScalar}
 use Rattle.std.specs.Fmt.Cut.{floor_char_boundary}
@@ -8,7 +8,7 @@ use Rattle.sprintf.specs.declared.parser.ConversionType.{ConversionType}
 use Rattle.sprintf.specs.declared.parser.ConversionType.TheVariants.{Char, String}
 use Rattle.sprintf.specs.Field.{cut_to}
 use Rattle.sprintf.proofs.Cut.{cut_is}
-use Rattle.scan_fmt.specs.Directives.{is_blank, Until, Solid, Characters}
+use Rattle.scan_fmt.specs.Directives.{Until, Solid}
 use Rattle.scan_fmt.specs.Scanned.{Suits, MayTake, IsLongest}
 use Rattle.values.specs.declared.kind.Kind.{Kind}
 use Rattle.values.specs.Datum.{Datum, word, character}

@@ -1,11 +1,11 @@
 -- The digits of a kind's numbers are no longer than the table says, and the numbers fit.
-use Rattle.std.proofs.Common.{◌≡◌, ◌⊎◌, ◌<◌, ◌≤◌, ◌+◌, ◌-◌, ◌^◌, ℕ, suc, ℤ, pos, negsuc, Bool, true, false, List, [], length, ⊎_elim, refl, arith, FitsSigned, w8, w16, w32, w64}
+use Rattle.std.proofs.Common.{◌≡◌, ◌<◌, ◌≤◌, ◌+◌, ◌-◌, ◌^◌, ℕ, suc, ℤ, pos, negsuc, Bool, true, false, length, ⊎_elim, refl, arith, FitsSigned, w8, w16, w32, w64}
 use Rattle.std.proofs.Math.Nat.{pow-le-pow_right}
 use Rattle.std.proofs.Math.Facts.{Fits-of_z}
 use Rattle.std.specs.Int.{cast_unsigned}
 use Rattle.numerals.specs.Numeral.{numeral}
 use Rattle.numerals.proofs.Unique.{le_or_lt, length-numeral, numeral-ge}
-use Rattle.sprintf.specs.declared.parser.ConversionType.TheVariants.{DecInt, OctInt, HexIntLower, HexIntUpper}
+use Rattle.sprintf.specs.declared.parser.ConversionType.TheVariants.{DecInt, OctInt}
 use Rattle.values.specs.declared.kind.Kind.{Kind}
 use Rattle.values.specs.declared.kind.Kind.TheVariants.{U8, U16, U32, U64, Usize, I8, I16, I32, I64, Isize, Word, Char}
 use Rattle.values.specs.Datum.{natural, integer, IsOfKind}
