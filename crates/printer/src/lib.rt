@@ -1,9 +1,12 @@
 //! Prints values by templates of three dialects.
 #![tactic(auto)]
 
+mod append;
 mod dialect;
 mod error;
+mod keys;
 mod printer;
+mod told;
 
 pub use dialect::Dialect;
 pub use error::{PrinterError, RenderFault, TemplateFault, TextError};
