@@ -1,40 +1,37 @@
 -- What private calls append is what the printer prints.
-use Rattle.std.proofs.Common.{◌≡◌, ◌≢◌, ◌⊎◌, inl, inr, ℕ, List, [], ◌∷◌, ◌++◌, map, refl, sym, ap, ◌∙◌, subst, true, Result, Ok, Err, Option}
-use Rattle.std.specs.Prelude.{OnOk, IfOk, IfErr, OnErr, IsUtf8, string_bytes}
+use Rattle.std.proofs.Common.{◌≡◌, ◌⊎◌, inl, inr, ℕ, List, ◌++◌, map, refl, sym, ap, ◌∙◌, subst, true, Result, Ok, Err, Option}
+use Rattle.std.specs.Prelude.{IsUtf8}
 use Rattle.std.specs.Borrow.{MutBor}
 use Rattle.std.specs.Fn.{Mut, CalledAtMut}
-use Rattle.numerals.specs.Answer.{AppendsAnswer, IsAnswerBy}
-use Rattle.sprintf.specs.Grammar.{IsFormat}
+use Rattle.numerals.specs.Answer.{AppendsAnswer}
 use Rattle.sprintf.specs.Meaning.{Meaning as PrintfMeaning}
-use Rattle.sprintf.specs.Printed.{printed, PrintsFormat, RefusesFormat}
+use Rattle.sprintf.specs.Printed.{printed}
 use Rattle.sprintf.specs.declared.PrintfError.{PrintfError}
 use Rattle.sprintf.specs.declared.PrintfError.TheVariants.{NoMemory as PrintfNoMemory}
 use Rattle.sprintf.specs.declared.parser.FormatElement.{FormatElement}
-use Rattle.strfmt.specs.Fault.{IsFault as IsStrfmtFault, Fault as StrfmtFault, Outcome}
 use Rattle.strfmt.specs.Spec.{View}
-use Rattle.strfmt.specs.Text.{Meaning, IsPrinted, Prints as StrfmtPrints, filled_by}
+use Rattle.strfmt.specs.Text.{Meaning, IsPrinted, filled_by}
 use Rattle.strfmt.specs.Values.{Displays}
 use Rattle.strfmt.specs.Walk.{IsWalk}
 use Rattle.strfmt.specs.declared.types.FmtError.{FmtError}
 use Rattle.strfmt.specs.declared.types.FmtError.TheVariants.{NoMemory as StrfmtNoMemory}
 use Rattle.strfmt.proofs.PrintLemmas as strfmt_lemma
-use Rattle.formatx.specs.Fault.{Fault as FormatxFault, IsFault as IsFormatxFault, Tells}
+use Rattle.formatx.specs.Fault.{Fault as FormatxFault, Tells}
 use Rattle.formatx.specs.Scene.{NamedPosition, named_position, Scene, scene_over}
 use Rattle.formatx.specs.Text.{Prints as FormatxPrints, AppendsPrinted}
 use Rattle.formatx.specs.Values.{Meaning as FormatxMeaning}
 use Rattle.formatx.specs.declared.error.Error.{Error}
-use Rattle.formatx.specs.declared.error.Error.TheVariants.{NoMemory as FormatxNoMemory}
 use Rattle.formatx.specs.declared.value.Name.{Name}
 use Rattle.values.specs.declared.kind.Kind.{Kind}
 use Rattle.values.specs.declared.value.Value.{Value}
 use Rattle.values.specs.Datum.{Datum, each_of, kind_of, datum_of, printf_meaning, value_meaning}
 use Rattle.values.specs.Templates.{strfmt_meaning, formatx_meaning, value_format}
-use Rattle.printer.specs.declared.dialect.Dialect.TheVariants.{Printf, Strfmt, Formatx}
+use Rattle.printer.specs.declared.dialect.Dialect.TheVariants.{Strfmt, Formatx}
 use Rattle.printer.specs.declared.error.RenderFault.{RenderFault}
 use Rattle.printer.specs.declared.error.TextError.{TextError}
 use Rattle.printer.specs.declared.error.TextError.TheVariants.{Fault as TextFault, NoMemory as NoRoom}
-use Rattle.printer.specs.Fault.{strfmt_told, formatx_told, IsPrintfFault}
-use Rattle.printer.specs.Prints.{Printing, Prints, PrintsBy, RefusesText, named_from, value_at_key}
+use Rattle.printer.specs.Fault.{strfmt_told, IsPrintfFault}
+use Rattle.printer.specs.Prints.{PrintsBy, named_from, value_at_key}
 use Rattle.printer.specs.Inner.Appending.{AppendsWhere, ElementsPrint, IsCarriedFault, TellsPrintf, TellsStrfmt, TellsFormatx}
 use Rattle.printer.specs.Inner.State.{AreInPlace, name_of}
 use Rattle.printer.proofs.ValueLemmas.{each_value, fault_is_carried}
@@ -116,34 +113,3 @@ module _ (text : List ℕ) (names : List Name) (values : List Value) (in_place :
   formatx_fault old new error NoRoom h same tells = same
   formatx_fault old new error (TextFault fault) (inl it) same tells = ((Err it.0, same_scene (Err it.0) it.1, sym (tells.1 it.0 it.2)), same)
   formatx_fault old new error (TextFault fault) (inr memory) same tells = absurd (tells.0 memory)
-
--- ---- the printer
-
-abbrev Holds : Type 1
-Holds = Result (List ℕ) RenderFault → Type 0
-
-pub appends_weaker : (P Q : Holds) (old new : List ℕ) (r : Result (Unit {0}) TextError) → ((o : Result (List ℕ) RenderFault) → P o → Q o) → AppendsWhere P old new r → AppendsWhere Q old new r
-appends_weaker P Q old new (Ok done) weaker h = (h.0, weaker (Ok h.0) h.1, h.2)
-appends_weaker P Q old new (Err (TextFault fault)) weaker h = (weaker (Err fault) h.0, h.1)
-appends_weaker P Q old new (Err NoRoom) weaker h = h
-
--- what the elements of a format print is what the format prints
-pub elements_are : (elements : List FormatElement) (text : List ℕ) (names : List (List ℕ)) (kinds : List Kind) (values : List Datum) → IsFormat text elements
-    → (o : Result (List ℕ) RenderFault) → ElementsPrint elements kinds values o → PrintsBy Printf text names kinds values o
-elements_are elements text names kinds values is (Ok told) h = (elements, is, h)
-elements_are elements text names kinds values is (Err fault) h = (h.0, inr (elements, is, h.1), h.2)
-
-pub on_ok : (p : Printing) (kinds : List Kind) (values : List Datum) (old new : List ℕ) (r : Result (Unit {0}) TextError) → AppendsWhere (Prints p kinds values) old new r
-    → OnOk r ((text : List ℕ) × Prints p kinds values (Ok text) × (new ≡ old ++ text))
-on_ok p kinds values old new (Ok done) h = h
-on_ok p kinds values old new (Err error) h = tt
-
-pub on_refusal : (p : Printing) (kinds : List Kind) (values : List Datum) (old new : List ℕ) (r : Result (Unit {0}) TextError) → AppendsWhere (Prints p kinds values) old new r → IfErr r (RefusesText p kinds values)
-on_refusal p kinds values old new (Ok done) h = tt
-on_refusal p kinds values old new (Err (TextFault fault)) h = h.0
-on_refusal p kinds values old new (Err NoRoom) h = tt
-
-pub on_err : (p : Printing) (kinds : List Kind) (values : List Datum) (old new : List ℕ) (r : Result (Unit {0}) TextError) → AppendsWhere (Prints p kinds values) old new r → OnErr r (new ≡ old)
-on_err p kinds values old new (Ok done) h = tt
-on_err p kinds values old new (Err (TextFault fault)) h = h.1
-on_err p kinds values old new (Err NoRoom) h = h

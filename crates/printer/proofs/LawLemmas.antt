@@ -1,8 +1,8 @@
 -- A template prints one thing over values, and words tell dialects apart.
-use Rattle.std.proofs.Common.{◌≡◌, ◌≢◌, ◌⊎◌, inl, inr, ℕ, List, true, get_or, arith, refl, sym, ap, ◌∙◌, subst, Result, Ok, Err}
+use Rattle.std.proofs.Common.{◌≡◌, inl, inr, ℕ, List, true, get_or, arith, refl, sym, ap, ◌∙◌, subst, Result, Ok, Err}
 use Rattle.sprintf.specs.Grammar.{IsFormat}
 use Rattle.sprintf.specs.Meaning.{Meaning}
-use Rattle.sprintf.specs.Printed.{printed, RefusesFormat}
+use Rattle.sprintf.specs.Printed.{printed}
 use Rattle.sprintf.specs.declared.PrintfError.{PrintfError}
 use Rattle.sprintf.specs.declared.PrintfError.TheVariants.{ParseError, WrongType, TooManyArgs, NotEnoughArgs, Unknown, NoMemory}
 use Rattle.sprintf.specs.declared.parser.FormatElement.{FormatElement}
@@ -19,7 +19,6 @@ use Rattle.values.specs.Templates.{strfmt_meaning, formatx_meaning}
 use Rattle.printer.specs.declared.dialect.Dialect.{Dialect}
 use Rattle.printer.specs.declared.dialect.Dialect.TheVariants.{Printf, Strfmt, Formatx}
 use Rattle.printer.specs.declared.error.RenderFault.{RenderFault}
-use Rattle.printer.specs.Dialect.{dialect_word}
 use Rattle.printer.specs.Fault.{IsPrintfFault, strfmt_told, formatx_told}
 use Rattle.printer.specs.Laws.{PrintsOnce, DialectWordsDiffer}
 use Rattle.printer.specs.Prints.{PrintsBy, named_from, value_at_key}

@@ -1,11 +1,10 @@
 -- Values as plain data, and the faults of a printf format over them.
-use Rattle.std.proofs.Common.{◌≡◌, ◌≢◌, ℕ, ◌+◌, ◌<◌, List, [], ◌∷◌, ◌++◌, length, get_or, take, map, string_bytes, refl, sym, ap, ◌∙◌, arith, Result, Ok, Err}
+use Rattle.std.proofs.Common.{◌≡◌, ◌≢◌, ℕ, ◌+◌, ◌<◌, List, [], ◌∷◌, ◌++◌, length, get_or, take, map, string_bytes, refl, sym, ap, ◌∙◌, arith, Err}
 use Rattle.std.specs.List.{AllByRecursion}
 use Rattle.std.proofs.lemmas.List.{length-map, length-take-le, map-append, take_more}
 use Rattle.std.proofs.lemmas.List.Elements.{All-from_recursion}
 use Rattle.sprintf.specs.declared.arg.Arg.TheVariants.{U8, U16, U32, U64, Usize, I8, I16, I32, I64, Isize, Char, Str}
 use Rattle.sprintf.specs.Laws.{NeverAnswers}
-use Rattle.sprintf.specs.Meaning.{Meaning}
 use Rattle.sprintf.specs.Printed.{printed}
 use Rattle.sprintf.specs.declared.PrintfError.{PrintfError}
 use Rattle.sprintf.specs.declared.PrintfError.TheVariants.{ParseError, WrongType as CauseWrongType, TooManyArgs as CauseTooManyArgs, NotEnoughArgs as CauseNotEnoughArgs, Unknown, NoMemory}
@@ -79,6 +78,7 @@ name_pushed names words index name word within named in_place at same is =
     ap (map word_text) (take_more words index word within) ∙ map-append word_text (take index words) (get_or words index word ∷ []) ∙ ap (λ (w : Word). map word_text (take index words) ++ word_text w ∷ []) (sym is) in
     let count : length (map name_of names) ≡ index = ap length named ∙ length-map (take index words) word_text ∙ length-take-le index words (omega (arith, within)) in
     let front : named_from 0 (map name_of names ++ string_bytes name.name ∷ []) ≡ named_from 0 (map name_of names) ++ record { name = string_bytes name.name; index = name.index } ∷ [] =
-    named_from-push 0 (map name_of names) (string_bytes name.name) ∙ ap (λ (i : ℕ). named_from 0 (map name_of names) ++ record { name = string_bytes name.name; index = i } ∷ []) (let e : 0 + length (map name_of names) ≡ name.index = omega (arith, count, at) in e) in
-    (whole ∙ ap (λ (ts : List (List ℕ)). ts ++ string_bytes name.name ∷ []) named ∙ ap (λ (t : List ℕ). map word_text (take index words) ++ t ∷ []) same ∙ sym texts,
-    map-append named_position names (name ∷ []) ∙ ap (λ (ns : List NamedPosition). ns ++ named_position name ∷ []) in_place ∙ sym front ∙ ap (named_from 0) (sym whole))
+    named_from-push 0 (map name_of names) (string_bytes name.name) ∙ ap (λ (i : ℕ). named_from 0 (map name_of names) ++ record { name = string_bytes name.name; index = i } ∷ []) (let e : 0 + length (map name_of names) ≡ name.index = omega (arith, count, at) in e) in (
+      whole ∙ ap (λ (ts : List (List ℕ)). ts ++ string_bytes name.name ∷ []) named ∙ ap (λ (t : List ℕ). map word_text (take index words) ++ t ∷ []) same ∙ sym texts,
+      map-append named_position names (name ∷ []) ∙ ap (λ (ns : List NamedPosition). ns ++ named_position name ∷ []) in_place ∙ sym front ∙ ap (named_from 0) (sym whole),
+    )

@@ -81,11 +81,7 @@ fn parse_formatx<'t>(alloc: Global, template: &'t str) -> Result<Parsed<'t>, Pri
 }
 
 /// Parses a template in the dialect.
-fn parse<'t>(
-    alloc: Global,
-    dialect: Dialect,
-    template: &'t str,
-) -> Result<Parsed<'t>, PrinterError>
+fn parse<'t>(alloc: Global, dialect: Dialect, template: &'t str) -> Result<Parsed<'t>, PrinterError>
     ensures stands { IfOk result (λ parsed. StandsFor parsed template.now) }
     ensures dialect { IfOk result (λ parsed. dialect_of parsed ≡ dialect) }
     ensures template { OnOk result (IsTemplateOf dialect template.now) }

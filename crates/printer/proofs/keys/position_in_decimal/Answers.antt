@@ -1,6 +1,5 @@
-use Rattle.std.proofs.Common.{rules, ◌≡◌, ◌<◌, ℕ, length, get_or, ap, ◌∙◌, sym, subst, Option, arith}
+use Rattle.std.proofs.Common.{rules, ◌≡◌, ◌<◌, length, get_or}
 use Rattle.numerals.specs.Laws.{HasNoLeadingZero}
-use Rattle.printer.specs.Inner.Keys.{IsPosition}
 use Rattle.printer.proofs.KeyLemmas.{no_zero_in_front, no_digits, fitted}
 use Rattle.printer.proofs.keys.position_in_decimal.Goals as goal
 

@@ -1,4 +1,4 @@
-use Rattle.std.proofs.Common.{rules, ◌≡◌, List, [], ◌∷◌, ◌++◌, refl, ◌∙◌}
+use Rattle.std.proofs.Common.{rules, ◌≡◌, [], ◌∷◌, ◌++◌, refl, ◌∙◌}
 use Rattle.formatx.specs.declared.value.Name.{Name}
 use Rattle.printer.proofs.ValueLemmas.{name_pushed}
 use Rattle.printer.proofs.printer.name_positions.Goals as goal

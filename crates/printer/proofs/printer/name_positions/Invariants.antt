@@ -1,5 +1,5 @@
 -- The words so far have their names, each at its place.
-use Rattle.std.proofs.Common.{◌≡◌, ℕ, List, map, take}
+use Rattle.std.proofs.Common.{◌≡◌, map, take}
 use Rattle.values.specs.Datum.{word_text}
 use Rattle.printer.specs.Inner.State.{AreInPlace, name_of}
 use Rattle.printer.proofs.printer.name_positions.Given as goal
