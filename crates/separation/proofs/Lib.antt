@@ -1,3 +1,4 @@
+pub mod Clear
 pub mod Ends
 pub mod Greatest
 pub mod Lengths
