@@ -8,6 +8,7 @@ mod error;
 mod field;
 mod options;
 mod row;
+mod table;
 mod target;
 
 pub use error::TranslateError;
