@@ -1,4 +1,7 @@
 // Why a format has no translation.
+ghost use Rattle.std.specs.Prelude.{◌≡◌};
+
+use std::alloc::AllocError;
 
 /// Why a format wasn't translated.
 #[derive(Clone, Copy, Debug, PartialEq, Eq)]
@@ -7,4 +10,24 @@ pub enum TranslateError {
     /// the place after the last element.
     Element { place: usize },
     NoMemory,
+}
+
+impl From<AllocError> for TranslateError {
+    ghost use Rattle.translation.specs.declared.error.TranslateError.TheVariants.{NoMemory};
+
+    ghost from_gives = { λ _ why. why ≡ NoMemory };
+
+    fn from(_: AllocError) -> TranslateError {
+        TranslateError::NoMemory
+    }
+}
+
+impl From<numerals::NoMemory> for TranslateError {
+    ghost use Rattle.translation.specs.declared.error.TranslateError.TheVariants.{NoMemory};
+
+    ghost from_gives = { λ _ why. why ≡ NoMemory };
+
+    fn from(_: numerals::NoMemory) -> TranslateError {
+        TranslateError::NoMemory
+    }
 }

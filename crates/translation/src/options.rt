@@ -1,10 +1,9 @@
 // The options of a field in braces.
-ghost use Rattle.std.specs.Prelude.{◌≡◌, ◌++◌, [], OnOk, string_bytes};
-ghost use Rattle.translation.specs.Table.{in_braces};
-ghost use Rattle.translation.specs.Inner.Options.{letters_text, plus_text, precision_text, side_text, width_text, written, zero_text};
+ghost use Rattle.std.specs.Prelude.{◌≡◌, ◌++◌, IfErr, OnOk, string_bytes};
+ghost use Rattle.translation.specs.Inner.Options.{behind_colon, letters_text, plus_text, precision_text, side_text, width_text, written, zero_text};
 
-use crate::Target;
-use numerals::{NoMemory, Radix, push_digits};
+use crate::{Target, TranslateError};
+use numerals::{Radix, push_digits};
 
 /// On which side of its room a text stands, and what fills the room: spaces, but for `RightOfZeros`.
 #[derive(Clone, Copy, Debug, PartialEq, Eq)]
@@ -73,4 +72,40 @@ impl Options {
         precision: None,
         letters: Letters::Unset,
     };
+
+    /// Appends the options behind a colon, if there are any.
+    pub(crate) fn push(&self, text: &mut String, target: Target) -> Result<(), TranslateError>
+        ensures ok { OnOk result (string_bytes text.new ≡ string_bytes text.old ++ behind_colon (written target self.now)) }
+        ensures memory { IfErr result (λ e. e ≡ TranslateError.NoMemory) }
+    {
+        if *self == Options::NONE {
+            return Ok(());
+        }
+        text.push_str(":")?;
+        self.push_written(text, target)?;
+        Ok(())
+    }
+
+    /// Appends the options.
+    fn push_written(&self, text: &mut String, target: Target) -> Result<(), TranslateError>
+        ensures ok { OnOk result (string_bytes text.new ≡ string_bytes text.old ++ written target self.now) }
+        ensures memory { IfErr result (λ e. e ≡ TranslateError.NoMemory) }
+    {
+        text.push_str(self.side.text())?;
+        if self.plus {
+            text.push('+')?;
+        }
+        if self.zero {
+            text.push('0')?;
+        }
+        if let Some(width) = self.width {
+            push_digits(text, u128::from(width), Radix::Ten, false)?;
+        }
+        if let Some(precision) = self.precision {
+            text.push('.')?;
+            push_digits(text, u128::from(precision), Radix::Ten, false)?;
+        }
+        text.push_str(self.letters.text(target))?;
+        Ok(())
+    }
 }

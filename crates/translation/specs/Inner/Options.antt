@@ -1,5 +1,5 @@
 -- The options of a field as the code keeps them, and the text that they are.
-use Rattle.std.specs.Prelude.{◌≡◌, ℕ, ◌+◌, ◌-◌, Bool, true, false, if◌then◌else◌, List, [], ◌∷◌, ◌++◌, length, codes, Option, Some, None, Result}
+use Rattle.std.specs.Prelude.{◌≡◌, ℕ, ◌+◌, ◌-◌, Bool, true, false, List, [], ◌∷◌, ◌++◌, length, codes, Option, Some, None}
 use Rattle.numerals.specs.Numeral.{numeral}
 use Rattle.sprintf.specs.declared.parser.FormatElement.{FormatElement}
 use Rattle.values.specs.declared.kind.Kind.{Kind}
@@ -54,6 +54,11 @@ letters_text Formatx Octal = codes "o"
 -- The parts of the options, end to end.
 abbrev pub written : Target → Options → List ℕ
 written target o = side_text o.side ++ (plus_text o.plus ++ (zero_text o.zero ++ (width_text o.width ++ (precision_text o.precision ++ letters_text target o.letters))))
+
+-- Options stand behind a colon, if there are any.
+abbrev pub behind_colon : List ℕ → List ℕ
+behind_colon [] = []
+behind_colon (c ∷ cs) = codes ":" ++ (c ∷ cs)
 
 -- The text of a field: its prefix, and then the number of its kind with its options in braces.
 abbrev pub field_text : Target → ℕ → Field → List ℕ

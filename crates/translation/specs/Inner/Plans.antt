@@ -1,21 +1,13 @@
 -- Which options each row of the table has.
-use Rattle.std.specs.Prelude.{ℕ, ◌-◌, ◌==◌, ◌&&◌, Bool, true, false, if◌then◌else◌, List, [], ◌∷◌, length, Option, Some, None, option_map, unwrap_or}
-use Rattle.sprintf.specs.declared.parser.ConversionSpecifier.{ConversionSpecifier}
-use Rattle.sprintf.specs.declared.parser.ConversionType.{ConversionType}
-use Rattle.sprintf.specs.declared.parser.ConversionType.TheVariants.{DecInt, OctInt, HexIntLower, HexIntUpper, Char as CharConversion, String}
-use Rattle.sprintf.specs.Field.{number_of}
-use Rattle.values.specs.declared.kind.Kind.{Kind}
-use Rattle.row_format.specs.Columns.{width_of}
-use Rattle.row_format.specs.Plannable.{is_signed}
+use Rattle.std.specs.Prelude.{ℕ, ◌-◌, ◌==◌, Bool, true, false, if◌then◌else◌, Option, Some, None}
 use Rattle.translation.specs.declared.options.Letters.{Letters}
-use Rattle.translation.specs.declared.options.Letters.TheVariants.{Unset as NoLetters, LowerHex, UpperHex, Octal}
+use Rattle.translation.specs.declared.options.Letters.TheVariants.{Unset as NoLetters}
 use Rattle.translation.specs.declared.options.Options.{Options}
 use Rattle.translation.specs.declared.options.Side.TheVariants.{Unset, Left, Right, RightOfZeros}
 use Rattle.translation.specs.declared.row.Row.{Row}
 use Rattle.translation.specs.declared.row.Row.TheVariants.{Unpadded, ToLeft, ByZeros, ToRight}
 use Rattle.translation.specs.declared.target.Target.{Target}
 use Rattle.translation.specs.declared.target.Target.TheVariants.{Strfmt, Formatx}
-use Rattle.translation.specs.Table.{row_of, prefix_in, least_length, has_space, goes_with}
 
 -- No options at all.
 abbrev pub none : Options
