@@ -221,10 +221,10 @@ opening_clear v c kind x rest paired is h =
     head_clear v (field_text c.field kind x ++ rest) (head_front v (field_text c.field kind x) rest (number_clear v c.field kind refl (converts_digits c.field.conversion_type kind refl paired.0) paired.1 x is h))
 
 -- a field without literal text behind it
-stop_none : (c : Column) → c.after ≡ [] → stop c ≡ None
+pub stop_none : (c : Column) → c.after ≡ [] → stop c ≡ None
 stop_none c none = ap (λ (t : List ℕ). first (chars t)) none ∙ first_none
 
-behind_none : (c : Column) (text : List ℕ) → c.after ≡ [] → c.after ++ text ≡ text
+pub behind_none : (c : Column) (text : List ℕ) → c.after ≡ [] → c.after ++ text ≡ text
 behind_none c text none = ap (λ (t : List ℕ). t ++ text) none
 
 pub not_followed : (c next : Column) (cs : List Column) (kind : Kind) (kinds : List Kind) → c.after ≡ [] → IsPaired next kind → is_opening_taken c.field.conversion_type (field_opening next.field kind) ≡ false → IsFollowed c (next ∷ cs) (kind ∷ kinds) → ⊥

@@ -1,7 +1,9 @@
+pub mod Behind
 pub mod Clear
 pub mod Ends
 pub mod Greatest
 pub mod Lengths
 pub mod Sorts
+pub mod Taken
 pub mod Texts
 pub mod Words

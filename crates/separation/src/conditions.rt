@@ -5,6 +5,7 @@ ghost use Rattle.separation.specs.Refusal.{IsRefused};
 ghost use Rattle.separation.specs.Inner.Conditions.{Breaks, MayJudge};
 
 use crate::Refused;
+use crate::front::split;
 use crate::pairs::{is_lossy, is_unpaired};
 use crate::touching::runs_on;
 use row_format::{RowField, RowFormat};
@@ -43,11 +44,11 @@ impl Condition {
         let mut kinds = kinds;
         let mut passed = 0;
         'columns: while !self.is_broken(columns, kinds) {
-            let ([_, later_columns @ ..], [_, later_kinds @ ..]) = (columns, kinds) else {
+            let Some(front) = split(columns, kinds) else {
                 return None;
             };
-            columns = later_columns;
-            kinds = later_kinds;
+            columns = front.columns;
+            kinds = front.kinds;
             passed += 1;
         }
         Some(passed + 1)
