@@ -1,5 +1,6 @@
 // A job that goes line by line.
-ghost use Rattle.std.specs.Prelude.{◌≡◌, ◌++◌, ℕ, List, Bool, true, OnOk, OnErr, string_bytes};
+ghost use Rattle.std.specs.Prelude.{◌≡◌, ◌++◌, ◌∷◌, [], ℕ, List, Bool, true, OnOk, OnErr, IfErr, string_bytes, take, IsCharBoundary};
+ghost use Rattle.whiteread.specs.Lines.{line_feed};
 ghost use Rattle.line_job.specs.Rules.{Rules};
 ghost use Rattle.line_job.specs.Refusal.{IfRefused};
 ghost use Rattle.line_job.specs.Laws.{AreClear};
@@ -30,6 +31,23 @@ impl<W: Copy, T: Drop> From<AllocFailed<T>> for Refusal<W> {
 
     fn from(_: AllocFailed<T>) -> Self {
         Refusal::NoMemory
+    }
+}
+
+/// Puts a line feed at the end of what is owed for a line, or cuts the text to the bytes before it, so that a refused line owes
+/// nothing.
+pub fn end_line<W: Copy>(out: &mut String, before: usize) -> Result<(), Refusal<W>>
+    requires { IsCharBoundary (string_bytes out.old) before }
+    ensures ok { OnOk result (string_bytes out.new ≡ string_bytes out.old ++ line_feed ∷ []) }
+    ensures cut { OnErr result (string_bytes out.new ≡ take before (string_bytes out.old)) }
+    ensures memory { IfErr result (λ why. why ≡ NoMemory) }
+{
+    match out.push_str("\n") {
+        Ok(()) => Ok(()),
+        Err(_) => {
+            out.truncate(before);
+            Err(Refusal::NoMemory)
+        }
     }
 }
 
