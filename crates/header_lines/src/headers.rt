@@ -20,11 +20,7 @@ use values::{Kind, KindsError, parse_kinds};
 use whiteread::stream::SplitAsciiWhitespace;
 
 /// Reads a kinds line.
-pub fn read_kinds(
-    alloc: Global,
-    number: u64,
-    line: &str,
-) -> Result<Vec<Kind>, Refusal<LineCause>>
+pub fn read_kinds(alloc: Global, number: u64, line: &str) -> Result<Vec<Kind>, Refusal<LineCause>>
     ensures ok { IfOk result (λ kinds. IsKindsLine line.now kinds.items) }
     ensures refused { IfRefused result (RefusesKinds number line.now) }
 {
