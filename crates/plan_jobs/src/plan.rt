@@ -33,8 +33,8 @@ fn read_header(
     line: &str,
 ) -> Result<State, Refusal<LineCause>>
     requires { judges (stage_of state) ≡ true }
-    ensures kept { IfOk result (λ next. Keeps (stage_of state.entry) number line.now [] (stage_of next)) }
-    ensures refused { IfRefused result (Refuses (stage_of state.entry) number line.now) }
+    ensures kept { IfOk result (λ next. Keeps (stage_of state) number line.now [] (stage_of next)) }
+    ensures refused { IfRefused result (Refuses (stage_of state) number line.now) }
 {
     match state {
         State::Kinds => Ok(State::Format(read_kinds(alloc, number, line)?)),

@@ -1,8 +1,8 @@
 // The job that scans: for each line it owes the tokens, with tabs between them.
-ghost use Rattle.std.specs.Prelude.{◌≡◌, OnOk, IfOk, string_bytes};
+ghost use Rattle.std.specs.Prelude.{◌≡◌, OnOk, IfOk, string_bytes, codes};
 ghost use Rattle.std.specs.Str.{chars};
 ghost use Rattle.scan_fmt.specs.Slices.{slices_left};
-ghost use Rattle.line_job.specs.Ends.{source_seen, sink_seen};
+ghost use Rattle.line_job.specs.Ends.{Tells, source_seen, sink_seen};
 ghost use Rattle.line_job.specs.Told.{RunsTold};
 ghost use Rattle.header_lines.specs.Message.{cause_message};
 ghost use Rattle.plan_jobs.specs.Scan.{ScanStage, scan_rules, tab_joined};
@@ -98,7 +98,10 @@ impl LineJob for Scan<'_> {
 }
 
 /// Tells that there is no memory, and answers the status. Nothing is read or written.
-fn tell_no_memory<E: Sink>(errors: &mut E) -> u8 {
+fn tell_no_memory<E: Sink>(errors: &mut E) -> u8
+    ensures status { result ≡ 6 }
+    ensures told { Tells (sink_seen E.held E.faults errors.old errors.new) (codes "no memory\n") }
+{
     let stop: Stop<LineCause> = Stop::NoMemory;
     tell(errors, &message_of(stop));
     status_of(stop)

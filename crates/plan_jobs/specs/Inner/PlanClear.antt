@@ -1,6 +1,5 @@
 -- The rules of the job that plans are clear.
 use Rattle.std.proofs.Common.{◌≡◌, ℕ, List, sym, ap, ◌∙◌}
-use Rattle.values.specs.declared.kind.Kind.{Kind}
 use Rattle.row_format.specs.Columns.{Columns}
 use Rattle.row_format.specs.Planned.{planned_text}
 use Rattle.line_job.specs.Laws.{AreClear}

@@ -1,13 +1,13 @@
 -- The rules of the job that scans are clear.
-use Rattle.std.proofs.Common.{◌≡◌, ◌++◌, ℕ, List, [], ◌∷◌, map, All, sym, ap, ◌∙◌, refl}
+use Rattle.std.proofs.Common.{◌≡◌, ◌++◌, ℕ, List, [], ◌∷◌, map, sym, ap, ◌∙◌, refl}
 use Rattle.std.specs.List.{AllByRecursion}
-use Rattle.std.specs.Str.{chars, IsUtf8, encodes}
+use Rattle.std.specs.Str.{chars, IsUtf8}
+use lib.Utf8.{encodes}
 use Rattle.std.proofs.lemmas.Str.{encodes-chars}
 use Rattle.std.proofs.lemmas.List.Elements.{recursion_from_All}
 use Rattle.scan_fmt.specs.Scanned.{Token}
 use Rattle.scan_fmt.proofs.OneAnswer.{one_answer}
 use Rattle.line_job.specs.Laws.{AreClear}
-use Rattle.header_lines.specs.declared.cause.LineCause.{LineCause}
 use Rattle.plan_jobs.specs.Scan.{ScanStage, AreTokens, tab_joined, Keeps, scan_rules}
 
 same_texts : (a b : List (List ℕ)) → AllByRecursion IsUtf8 a → AllByRecursion IsUtf8 b → map chars a ≡ map chars b → a ≡ b
