@@ -1,6 +1,16 @@
 //! The separation rule: which printf formats can be read back, judged from their fields and kinds alone.
 #![tactic(auto)]
 
+mod conditions;
+pub mod laws;
+mod front;
+mod pairs;
+mod table;
+mod touching;
+
+pub use conditions::judge;
+pub use table::is_exact;
+
 /// Why a format can't be read back. Fields count from 1; `%%` is no field.
 #[derive(Clone, Copy, Debug, PartialEq, Eq)]
 pub enum Refused {
