@@ -1,5 +1,6 @@
 // A plan, and the rows that it reads.
 ghost use Rattle.std.specs.Prelude.{◌≡◌, IfOk, IfErr, OnOk};
+ghost use Rattle.std.specs.Str.{chars};
 ghost use Rattle.row_format.specs.Columns.{columns_of};
 ghost use Rattle.row_format.specs.Plannable.{IsPlannable};
 ghost use Rattle.row_format.specs.Planned.{planned_text};
@@ -73,6 +74,21 @@ impl RowPlan {
         line: &str,
         again: &mut String,
     ) -> Result<Vec<Value>, RowError>
+        ensures ok { IfOk result (λ values. IsRead self.now line.now values.items) }
+        ensures refused { IfErr result (RefusesRow self.now line.now) }
+    {
+        Err(RowError::NoMemory)
+    }
+
+    /// The same, by the scanning format, so that it is cut once for many rows.
+    pub fn read_row_by(
+        &self,
+        alloc: Global,
+        format: &scan_fmt::parse::Format<'_>,
+        line: &str,
+        again: &mut String,
+    ) -> Result<Vec<Value>, RowError>
+        requires format { format.now ≡ chars (planned_text self.now.format self.now.kinds) }
         ensures ok { IfOk result (λ values. IsRead self.now line.now values.items) }
         ensures refused { IfErr result (RefusesRow self.now line.now) }
     {
