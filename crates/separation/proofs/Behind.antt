@@ -106,3 +106,14 @@ runs_parts c cs kind kinds (exact, (value, values, fit, taken)) =
 pub runs_by : (c : Column) (cs : List Column) (kind : Kind) (kinds : List Kind) → is_exact c.field kind ≡ false → Touches c kind → IsFollowed c cs kinds → RunsOn (c ∷ cs) (kind ∷ kinds)
 runs_by c cs kind kinds exact (value, fit, none) (values, fits, taken) =
     (exact, (value, values, (fit, fits), subst (λ (t : List ℕ). BeginsTaken c (t ++ (c.after ++ columns_text cs kinds values))) (sym none) taken))
+
+-- the test of a field that isn't exact
+pub runs_exactly : (columns : List Column) (kinds : List Kind) (c : Column) (cs : List Column) (kind : Kind) (more : List Kind) (b : Bool) → columns ≡ c ∷ cs → kinds ≡ kind ∷ more
+    → (b ≡ true → is_exact c.field kind ≡ false) → (b ≡ true → Touches c kind) → (b ≡ true → IsFollowed c cs more)
+    → (is_exact c.field kind ≡ false → Touches c kind → IsFollowed c cs more → b ≡ true) → Decides b (RunsOn columns kinds)
+runs_exactly columns kinds c cs kind more b e k exact touches follows all =
+    subst (λ (xs : List Column). Decides b (RunsOn xs kinds)) (sym e) (subst (λ (ys : List Kind). Decides b (RunsOn (c ∷ cs) ys)) (sym k)
+      (
+        (λ h. runs_by c cs kind more (exact h) (touches h) (follows h)),
+        (λ runs. let parts = runs_parts c cs kind more runs in all parts.0 parts.1 parts.2)
+      ))

@@ -3,6 +3,7 @@ pub mod Clear
 pub mod Ends
 pub mod Greatest
 pub mod Lengths
+pub mod Places
 pub mod Sorts
 pub mod Taken
 pub mod Texts
