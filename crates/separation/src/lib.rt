@@ -2,13 +2,14 @@
 #![tactic(auto)]
 
 mod conditions;
-pub mod laws;
 mod front;
+pub mod laws;
 mod pairs;
 mod table;
 mod touching;
 
 pub use conditions::judge;
+pub use table::is_exact;
 
 /// Why a format can't be read back. Fields count from 1; `%%` is no field.
 #[derive(Clone, Copy, Debug, PartialEq, Eq)]
