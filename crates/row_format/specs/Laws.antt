@@ -7,18 +7,18 @@ use Rattle.sprintf.specs.Printed.{printed}
 use Rattle.scan_fmt.specs.Scanned.{ScannedTexts}
 use Rattle.values.specs.declared.kind.Kind.{Kind}
 use Rattle.values.specs.Datum.{Datum, IsOfKind, printf_meaning, each_of}
-use Rattle.row_format.specs.Columns.{Column, Columns, columns_of, field_text, row_text}
+use Rattle.row_format.specs.Columns.{Column, Columns, columns_of, field_text, row_text, width_of}
 use Rattle.row_format.specs.Fit.{AreFit}
 use Rattle.row_format.specs.Plannable.{IsUnpaired, IsPaired, Never, IsPlannable, is_number, greatest_length}
 use Rattle.row_format.specs.Planned.{planned_text}
 use Rattle.row_format.specs.Row.{IsRow, EachReads}
 
--- The literal text behind each field is UTF-8.
+-- The literal text behind each field is UTF-8, and an i32 holds the field's width.
 abbrev pub AreTexts : List Column → Type 0
 AreTexts [] = ⊤
-AreTexts (c ∷ cs) = IsUtf8 c.after × AreTexts cs
+AreTexts (c ∷ cs) = IsUtf8 c.after × (width_of c.field ≤ 2147483647) × AreTexts cs
 
--- The literal texts of a format are UTF-8.
+-- The literal texts of a format are UTF-8, and an i32 holds each width.
 abbrev pub IsText : Columns → Type 0
 IsText format = IsUtf8 format.head × AreTexts format.columns
 

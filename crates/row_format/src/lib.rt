@@ -2,5 +2,7 @@
 #![tactic(auto)]
 
 mod format;
+mod laws;
 
 pub use format::{RowField, RowFormat};
+pub use laws::prints_columns;

@@ -2,8 +2,8 @@
 #![tactic(auto)]
 
 mod error;
-mod plan;
+mod rows;
 
 pub use error::{PlanError, RowError};
-pub use plan::{RowPlan, plan};
+pub use rows::{RowPlan, plan};
 pub use separation::Refused;

@@ -1,16 +1,16 @@
 -- The directives of a planned text, and what one planned field takes.
-use Rattle.std.specs.Prelude.{◌≡◌, ◌⊎◌, ℕ, ◌-◌, Bool, true, false, if◌then◌else◌, List, [], ◌∷◌, ◌++◌, map, codes, Option, Some, None}
+use Rattle.std.specs.Prelude.{◌≡◌, ◌⊎◌, ℕ, ◌-◌, Bool, true, false, if◌then◌else◌, List, [], ◌∷◌, ◌++◌, codes, Option, Some, None}
 use Rattle.std.specs.List.{AllByRecursion}
 use Rattle.std.specs.Str.{chars, IsUtf8}
 use Rattle.sprintf.specs.declared.parser.ConversionType.{ConversionType}
-use Rattle.sprintf.specs.declared.parser.ConversionType.TheVariants.{DecInt, OctInt, HexIntLower, HexIntUpper, Char, String}
+use Rattle.sprintf.specs.declared.parser.ConversionType.TheVariants.{DecInt, OctInt, HexIntLower, HexIntUpper}
 use Rattle.scan_fmt.specs.Directives.{is_blank, Directive, Exactly, Field, Shape, Characters, Number, Decimal, Hexadecimal, Until, Solid}
 use Rattle.scan_fmt.specs.Scanned.{IsLongest, MayTake, token_text}
 use Rattle.values.specs.declared.kind.Kind.{Kind}
 use Rattle.values.specs.Datum.{Datum}
 use Rattle.row_format.specs.Columns.{Column, Columns, width_of, field_text}
 use Rattle.row_format.specs.Fit.{stop, IsFit}
-use Rattle.row_format.specs.Plannable.{IsPaired, is_exact, trailing_spaces, BeginsTaken}
+use Rattle.row_format.specs.Plannable.{IsPaired, IsLossy, is_exact, trailing_spaces, BeginsTaken}
 use Rattle.row_format.specs.Row.{Reads}
 
 -- The directives of literal characters: white space has none, since a scan skips it.
@@ -79,7 +79,7 @@ pub record Taken (c : Column) (kind : Kind) (value : Datum) (more : List ℕ) : 
   pub longest : IsLongest (MayTake (shape_of c kind)) (taken ++ (chars (trailing_spaces (field_text c.field kind value)) ++ more)) taken (chars (trailing_spaces (field_text c.field kind value)) ++ more)
   pub reads : Reads c.field.conversion_type kind (token_text (shape_of c kind) taken) value
 
--- One field is read back.
+-- One field is read back, unless its precision may cut a word.
 abbrev pub FieldReads : Type 0
-FieldReads = (c : Column) (kind : Kind) (value : Datum) (behind : List ℕ) → IsPaired c kind → IsFit c kind value → IsUtf8 behind
+FieldReads = (c : Column) (kind : Kind) (value : Datum) (behind : List ℕ) → IsPaired c kind → ¬ IsLossy (c ∷ []) (kind ∷ []) → IsFit c kind value → IsUtf8 behind
     → (is_exact c.field kind ≡ true) ⊎ (¬ BeginsTaken c (trailing_spaces (field_text c.field kind value) ++ behind)) → Taken c kind value (chars behind)

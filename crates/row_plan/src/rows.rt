@@ -1,0 +1,97 @@
+// A plan, and the rows that it reads.
+ghost use Rattle.std.specs.Prelude.{◌≡◌, IfOk, IfErr, OnOk};
+ghost use Rattle.std.specs.Str.{chars};
+ghost use Rattle.row_format.specs.Columns.{columns_of};
+ghost use Rattle.row_format.specs.Plannable.{IsPlannable};
+ghost use Rattle.row_format.specs.Planned.{planned_text};
+ghost use Rattle.row_plan.specs.Plan.{RefusesPlan, IsRead, RefusesRow};
+
+use crate::{PlanError, RowError};
+use row_format::RowFormat;
+use sprintf::parser::FormatElement;
+use std::alloc::Global;
+use std::marker::Model;
+use values::{Kind, Value};
+
+/// How the rows of a printf format are read back. It owns copies of the format's texts, fields and kinds.
+#[derive(Drop)]
+pub struct RowPlan {
+    format: RowFormat,
+    kinds: Vec<Kind>,
+    text: String,
+}
+
+impl Model for RowPlan {
+    ghost use Rattle.std.specs.Prelude.{◌≡◌, string_bytes};
+    ghost use Rattle.row_format.specs.Laws.{IsText};
+    ghost use Rattle.row_format.specs.Plannable.{IsPlannable};
+    ghost use Rattle.row_format.specs.Planned.{planned_text};
+    ghost use Rattle.row_plan.specs.Plan.{Planned};
+
+    ghost Value = { Planned };
+
+    ghost view = { λ it. record { format = it.format; kinds = it.kinds.items } };
+
+    ghost invariant = { λ it. IsPlannable it.format.columns it.kinds.items × (string_bytes it.text ≡ planned_text it.format it.kinds.items) };
+}
+
+/// Plans the rows of a format, with one kind for each of its fields. It is refused exactly where the format can't be read back.
+pub fn plan(
+    alloc: Global,
+    elements: &[FormatElement<'_>],
+    kinds: &[Kind],
+) -> Result<RowPlan, PlanError>
+    ensures ok { IfOk result (λ plan. plan ≡ record { format = columns_of elements.now; kinds = kinds.now }) }
+    ensures plannable { OnOk result (IsPlannable (columns_of elements.now).columns kinds.now) }
+    ensures refused { IfErr result (RefusesPlan (columns_of elements.now).columns kinds.now) }
+{
+    Err(PlanError::NoMemory)
+}
+
+impl RowPlan {
+    /// The scanning format that reads the rows. It takes no memory.
+    pub fn format_text(&self) -> &str
+        ensures { result.now ≡ planned_text self.now.format self.now.kinds }
+    {
+        self.text.as_str()
+    }
+
+    /// Reads a line: the one list of values of which it is the row. A line that is shorter than the width of a field is
+    /// refused before anything is printed.
+    pub fn read_row(&self, alloc: Global, line: &str) -> Result<Vec<Value>, RowError>
+        ensures ok { IfOk result (λ values. IsRead self.now line.now values.items) }
+        ensures refused { IfErr result (RefusesRow self.now line.now) }
+    {
+        let mut again = String::new(alloc);
+        self.read_row_with(alloc, line, &mut again)
+    }
+
+    /// The same, with a text that is used to print the row again, and whose room is kept. What it holds afterwards isn't
+    /// fixed.
+    pub fn read_row_with(
+        &self,
+        alloc: Global,
+        line: &str,
+        again: &mut String,
+    ) -> Result<Vec<Value>, RowError>
+        ensures ok { IfOk result (λ values. IsRead self.now line.now values.items) }
+        ensures refused { IfErr result (RefusesRow self.now line.now) }
+    {
+        Err(RowError::NoMemory)
+    }
+
+    /// The same, by the scanning format, so that it is cut once for many rows.
+    pub fn read_row_by(
+        &self,
+        alloc: Global,
+        format: &scan_fmt::parse::Format<'_>,
+        line: &str,
+        again: &mut String,
+    ) -> Result<Vec<Value>, RowError>
+        requires format { format.now ≡ chars (planned_text self.now.format self.now.kinds) }
+        ensures ok { IfOk result (λ values. IsRead self.now line.now values.items) }
+        ensures refused { IfErr result (RefusesRow self.now line.now) }
+    {
+        Err(RowError::NoMemory)
+    }
+}
