@@ -1,10 +1,7 @@
 -- A field runs on where it may touch what is behind it, and that begins with a character that it takes.
-use Rattle.std.proofs.Common.{◌≡◌, ◌≢◌, ◌⊎◌, ◌≤◌, ℕ, Bool, true, false, List, [], ◌∷◌, ◌++◌, Some, sym, ap, subst, refl, inl, inr, ◌∙◌, arith}
-use Rattle.std.specs.Str.{chars}
-use Rattle.std.proofs.lemmas.Bool.{cases_Bool}
+use Rattle.std.proofs.Common.{◌≡◌, ◌⊎◌, ◌≤◌, ℕ, Bool, true, false, List, [], ◌∷◌, ◌++◌, sym, subst, refl, inl, inr, ◌∙◌, arith}
 use Rattle.sprintf.specs.declared.parser.ConversionType.{ConversionType}
 use Rattle.sprintf.specs.declared.parser.ConversionType.TheVariants.{DecInt, OctInt, HexIntLower, HexIntUpper, Char as CharConversion, String}
-use Rattle.scan_fmt.specs.Directives.{first}
 use Rattle.values.specs.declared.kind.Kind.{Kind}
 use Rattle.values.specs.declared.kind.Kind.TheVariants.{Word, Char}
 use Rattle.values.specs.Datum.{Datum}
@@ -12,7 +9,7 @@ use Rattle.row_format.specs.Columns.{Column, field_text, columns_text, width_of}
 use Rattle.row_format.specs.Fit.{stop, Takes}
 use Rattle.row_format.specs.Plannable.{is_number, is_exact, Converts, IsPaired, IsUnpaired, IsLossy, Never, BeginsTaken, RunsOn, trailing_spaces}
 use Rattle.separation.specs.Inner.Table.{field_opening, is_opening_taken}
-use Rattle.separation.specs.Inner.Touching.{TakesSome, IsWhole, Touches, IsFollowed}
+use Rattle.separation.specs.Inner.Touching.{TakesSome, Touches, IsFollowed}
 use Rattle.separation.proofs.Texts.{first_ascii, same_some, NoneOrSpace, trail_spaces}
 use Rattle.separation.proofs.Clear.{space_clear, not_followed}
 use Rattle.separation.proofs.Taken.{followed}
@@ -52,9 +49,9 @@ converts_stable _ kind h = h (λ k. k)
 
 pub paired_of : (c : Column) (kind : Kind) → ((IsPaired c kind → ⊥) → ⊥) → IsPaired c kind
 paired_of c kind h = (
-    converts_stable c.field.conversion_type kind (λ refuted. h (λ p. refuted p.0)),
-    λ e. h (λ p. p.1 e),
-    λ e. h (λ p. p.2 e)
+  converts_stable c.field.conversion_type kind (λ refuted. h (λ p. refuted p.0)),
+  λ e. h (λ p. p.1 e),
+  λ e. h (λ p. p.2 e),
 )
 
 pub takes_some : (v : ConversionType) (kind : Kind) → Converts v kind → TakesSome v
@@ -112,8 +109,7 @@ pub runs_exactly : (columns : List Column) (kinds : List Kind) (c : Column) (cs 
     → (b ≡ true → is_exact c.field kind ≡ false) → (b ≡ true → Touches c kind) → (b ≡ true → IsFollowed c cs more)
     → (is_exact c.field kind ≡ false → Touches c kind → IsFollowed c cs more → b ≡ true) → Decides b (RunsOn columns kinds)
 runs_exactly columns kinds c cs kind more b e k exact touches follows all =
-    subst (λ (xs : List Column). Decides b (RunsOn xs kinds)) (sym e) (subst (λ (ys : List Kind). Decides b (RunsOn (c ∷ cs) ys)) (sym k)
-      (
-        (λ h. runs_by c cs kind more (exact h) (touches h) (follows h)),
-        (λ runs. let parts = runs_parts c cs kind more runs in all parts.0 parts.1 parts.2)
-      ))
+    subst (λ (xs : List Column). Decides b (RunsOn xs kinds)) (sym e) (subst (λ (ys : List Kind). Decides b (RunsOn (c ∷ cs) ys)) (sym k) (
+      (λ h. runs_by c cs kind more (exact h) (touches h) (follows h)),
+      (λ runs. let parts = runs_parts c cs kind more runs in all parts.0 parts.1 parts.2),
+    ))

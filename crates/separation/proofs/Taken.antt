@@ -1,8 +1,8 @@
 -- What the table says that a field takes, it takes for some values.
-use Rattle.std.proofs.Common.{eqb, cond, ◌≡◌, ◌≢◌, ◌⊎◌, ◌&&◌, ◌||◌, not, ◌<◌, ◌≤◌, ◌+◌, ◌-◌, ◌^◌, ℕ, zero, suc, ℤ, pos, negsuc, Bool, true, false, List, [], ◌∷◌, ◌++◌, length, replicate, Option, Some, None, FitsSigned, sym, ap, subst, refl, inl, inr, ◌∙◌, arith, encode_utf8, nat_le, nat_lt, unsigned_abs}
+use Rattle.std.proofs.Common.{eqb, cond, ◌≡◌, ◌≢◌, ◌⊎◌, ◌&&◌, ◌||◌, ◌<◌, ◌≤◌, ◌-◌, ◌^◌, ℕ, zero, suc, ℤ, pos, negsuc, Bool, true, false, List, [], ◌∷◌, ◌++◌, length, replicate, Some, None, FitsSigned, sym, ap, subst, refl, inl, inr, ◌∙◌, arith, encode_utf8, nat_le, nat_lt, unsigned_abs}
 use Rattle.std.specs.Char.{digit_value, IsScalar}
 use Rattle.std.specs.Str.{chars}
-use Rattle.std.proofs.lemmas.Bool.{cases_Bool, eqb-false, ltb-false, leb-true, leb-false, and_parts, and_cases, or_parts, or_cases}
+use Rattle.std.proofs.lemmas.Bool.{cases_Bool, eqb-false, ltb-false, leb-true, and_parts, and_cases, or_parts, or_cases}
 use Rattle.std.proofs.lemmas.Bool.Decides.{nat_tests}
 use Rattle.std.proofs.lemmas.List.{length-replicate}
 use Rattle.std.proofs.lemmas.Str.{length-encode, encode_ascii}
@@ -18,11 +18,10 @@ use Rattle.scan_fmt.specs.Directives.{first, is_blank, Until}
 use Rattle.scan_fmt.specs.Scanned.{Suits}
 use Rattle.values.specs.declared.kind.Kind.{Kind}
 use Rattle.values.specs.declared.kind.Kind.TheVariants.{Word, Char}
-use Rattle.values.specs.Datum.{Datum, natural, integer, word, character, IsOfKind}
+use Rattle.values.specs.Datum.{Datum, word, character, IsOfKind}
 use Rattle.row_format.specs.Columns.{Column, field_text, columns_text, width_of}
-use Rattle.row_format.specs.Fit.{stop, Takes, IsFit, AreFit}
-use Rattle.row_format.specs.Plannable.{IsPaired, IsUnpaired, Never, is_number, greatest_length, BeginsTaken}
-use Rattle.separation.specs.declared.table.Opening.{Opening}
+use Rattle.row_format.specs.Fit.{stop, Takes, IsFit}
+use Rattle.row_format.specs.Plannable.{IsPaired, IsUnpaired, Never, is_number, greatest_length}
 use Rattle.separation.specs.declared.table.Opening.TheVariants.{Space, Sign, Wide, Digit, Any}
 use Rattle.separation.specs.Inner.Table.{is_signed_decimal, field_opening, number_opening, character_opening, is_text, is_opening_taken}
 use Rattle.separation.specs.Inner.Touching.{TakesSome, IsWhole, IsFollowed}
@@ -152,18 +151,24 @@ module _ (v : ConversionType) (some : TakesSome v) (f : ConversionSpecifier) (ki
   -- a number of another kind than signed decimals
   bits_show : is_signed_decimal f.conversion_type kind ≡ false → (n : ℕ) → n < 2 ^ bits (width_of_kind kind) → HeadDigit (digits_of f.conversion_type n) → IsFlush f.left_adj f.zero_pad (room_of f (prefix f) n) → Opens v f kind
   bits_show other n small head flush =
-      let it = (bit_texts f kind number digits given other).some n small in
-      (it.0, it.1, subst (HeadTaken v) (sym it.2) (digit_head v (number_field f (prefix f) n) some
-          (form_digit f.left_adj f.zero_pad (room_of f (prefix f) n) (prefix f) (digits_of f.conversion_type n) (prefix_quiet f.conversion_type f.alt_form) head flush)))
+      let it = (bit_texts f kind number digits given other).some n small in (
+        it.0,
+        it.1,
+        subst (HeadTaken v) (sym it.2) (digit_head v (number_field f (prefix f) n) some
+            (form_digit f.left_adj f.zero_pad (room_of f (prefix f) n) (prefix f) (digits_of f.conversion_type n) (prefix_quiet f.conversion_type f.alt_form) head flush)),
+      )
 
   -- a signed decimal without a sign
   plain_show : is_signed_decimal f.conversion_type kind ≡ true → (n : ℕ) → FitsSigned (width_of_kind kind) (pos n) → (f.force_sign || f.space_sign) ≡ false → HeadDigit (digits_of f.conversion_type n)
       → IsFlush f.left_adj f.zero_pad (room_of f (sign_of f (pos n)) n) → Opens v f kind
   plain_show decimal n fits flags head flush =
-      let it = (decimal_texts f kind number digits given decimal).some (pos n) fits in
-      (it.0, it.1, subst (HeadTaken v) (sym it.2) (digit_head v (number_field f (sign_of f (pos n)) n) some
-          (form_digit f.left_adj f.zero_pad (room_of f (sign_of f (pos n)) n) (sign_of f (pos n)) (digits_of f.conversion_type n)
-            (λ text h. subst (λ (t : List ℕ). HeadDigit (t ++ text)) (sym (no_flags f.force_sign f.space_sign flags)) h) head flush)))
+      let it = (decimal_texts f kind number digits given decimal).some (pos n) fits in (
+        it.0,
+        it.1,
+        subst (HeadTaken v) (sym it.2) (digit_head v (number_field f (sign_of f (pos n)) n) some
+            (form_digit f.left_adj f.zero_pad (room_of f (sign_of f (pos n)) n) (sign_of f (pos n)) (digits_of f.conversion_type n)
+            (λ text h. subst (λ (t : List ℕ). HeadDigit (t ++ text)) (sym (no_flags f.force_sign f.space_sign flags)) h) head flush)),
+      )
 
   -- a signed decimal with a sign
   sign_show : is_signed_decimal f.conversion_type kind ≡ true → (z : ℤ) → FitsSigned (width_of_kind kind) z → HeadTaken v (sign_of f z) → IsFlush f.left_adj f.zero_pad (room_of f (sign_of f z) (unsigned_abs z)) → Opens v f kind
@@ -190,27 +195,27 @@ module _ (v : ConversionType) (some : TakesSome v) (f : ConversionSpecifier) (ki
   zero_show : (f.left_adj || f.zero_pad) ≡ true → (is_signed_decimal f.conversion_type kind && (f.force_sign || f.space_sign)) ≡ false → Opens v f kind
   zero_show sides bare = elim (cases_Bool (is_signed_decimal f.conversion_type kind)) [
     | inl decimal ↦
-      let flags : (f.force_sign || f.space_sign) ≡ false = sym (ap (λ b. b && (f.force_sign || f.space_sign)) decimal) ∙ bare in
-      plain_show decimal 0 (record { sfits = (signed_long kind).0 }) flags (zero_head f.conversion_type) (flush_sides f.left_adj f.zero_pad (room_of f (sign_of f (pos 0)) 0) sides)
+        let flags : (f.force_sign || f.space_sign) ≡ false = sym (ap (λ b. b && (f.force_sign || f.space_sign)) decimal) ∙ bare in
+        plain_show decimal 0 (record { sfits = (signed_long kind).0 }) flags (zero_head f.conversion_type) (flush_sides f.left_adj f.zero_pad (room_of f (sign_of f (pos 0)) 0) sides)
     | inr other ↦ bits_show other 0 (let long = bits_long f.conversion_type kind digits other in omega (arith, long.small)) (zero_head f.conversion_type) (flush_sides f.left_adj f.zero_pad (room_of f (prefix f) 0) sides)
   ]
 
   long_show : width_of f ≤ greatest_length f kind → (eqb (width_of f) (greatest_length f kind) && is_signed_decimal f.conversion_type kind) ≡ false → (is_signed_decimal f.conversion_type kind && (f.force_sign || f.space_sign)) ≡ false → Opens v f kind
   long_show room just bare = elim (cases_Bool (is_signed_decimal f.conversion_type kind)) [
     | inl decimal ↦
-      let flags : (f.force_sign || f.space_sign) ≡ false = sym (ap (λ b. b && (f.force_sign || f.space_sign)) decimal) ∙ bare in
-      let n = 2 ^ hbits (width_of_kind kind) - 1 in
-      let long = signed_long kind in
-      let same : digits_of f.conversion_type n ≡ numeral 10 false n = digits_decimal f.conversion_type n (decimal_is f.conversion_type kind decimal).0 in
-      let apart : width_of f ≢ greatest_length f kind = elim (and_cases (eqb (width_of f) (greatest_length f kind)) (is_signed_decimal f.conversion_type kind) just) [
-        | inl e ↦ eqb-false (width_of f) (greatest_length f kind) e
-        | inr e ↦ absurd (let bad : true ≡ false = sym decimal ∙ e in cc)
-      ] in
-      plain_show decimal n (record { sfits = omega (arith, long.0) }) flags (subst HeadDigit (sym same) long.2)
-      (λ l z. omega (arith, ap length same, long.1, decimal_greatest f kind decimal, room, apart))
+        let flags : (f.force_sign || f.space_sign) ≡ false = sym (ap (λ b. b && (f.force_sign || f.space_sign)) decimal) ∙ bare in
+        let n = 2 ^ hbits (width_of_kind kind) - 1 in
+        let long = signed_long kind in
+        let same : digits_of f.conversion_type n ≡ numeral 10 false n = digits_decimal f.conversion_type n (decimal_is f.conversion_type kind decimal).0 in
+        let apart : width_of f ≢ greatest_length f kind = elim (and_cases (eqb (width_of f) (greatest_length f kind)) (is_signed_decimal f.conversion_type kind) just) [
+          | inl e ↦ eqb-false (width_of f) (greatest_length f kind) e
+          | inr e ↦ absurd (let bad : true ≡ false = sym decimal ∙ e in cc)
+        ] in
+        plain_show decimal n (record { sfits = omega (arith, long.0) }) flags (subst HeadDigit (sym same) long.2)
+        (λ l z. omega (arith, ap length same, long.1, decimal_greatest f kind decimal, room, apart))
     | inr other ↦
-      let long = bits_long f.conversion_type kind digits other in
-      bits_show other long.n long.small long.head (λ l z. omega (arith, long.full, room))
+        let long = bits_long f.conversion_type kind digits other in
+        bits_show other long.n long.small long.head (λ l z. omega (arith, long.full, room))
   ]
 
   decimal_by : ((eqb (width_of f) (greatest_length f kind) && is_signed_decimal f.conversion_type kind) ≡ true) ⊎ ((is_signed_decimal f.conversion_type kind && (f.force_sign || f.space_sign)) ≡ true) → is_signed_decimal f.conversion_type kind ≡ true
@@ -258,9 +263,9 @@ word_opens v c some paired whole narrow =
     let t = times_is (width_of c.field) narrow in
     let digit = digit_for c in
     let text : field_text c.field Word (word (replicate n digit)) ≡ word_form c.field.left_adj (width_of c.field - length (replicate n digit)) (replicate n digit) =
-        word_is c.field (replicate n digit) (converts_word c.field.conversion_type paired.0) (precision_is c.field.precision (λ p. whole (refl, p))) paired.1 (omega (arith, length-replicate {A = ℕ} n digit, t.2)) in
+    word_is c.field (replicate n digit) (converts_word c.field.conversion_type paired.0) (precision_is c.field.precision (λ p. whole (refl, p))) paired.1 (omega (arith, length-replicate {A = ℕ} n digit, t.2)) in
     let head : HeadTaken v (field_text c.field Word (word (replicate n digit))) = subst (HeadTaken v) (sym text) (digit_head v (word_form c.field.left_adj (width_of c.field - length (replicate n digit)) (replicate n digit)) some
-        (word_flush c.field.left_adj (width_of c.field - length (replicate n digit)) (replicate n digit) (same_head n digit t.1 (digit_is c)) (λ front. omega (arith, length-replicate {A = ℕ} n digit, t.0)))) in
+    (word_flush c.field.left_adj (width_of c.field - length (replicate n digit)) (replicate n digit) (same_head n digit t.1 (digit_is c)) (λ front. omega (arith, length-replicate {A = ℕ} n digit, t.0)))) in
     (word (replicate n digit), word_fits c n digit t.1 t.2 (digit_low c) (digit_suits c), λ rest. head_taken v (field_text c.field Word (word (replicate n digit))) rest head)
 
 -- of the openings of a character, those that a conversion takes
@@ -280,7 +285,7 @@ short_opens v c some paired short =
       | inr low ↦ omega (arith, ap length one, leb-true (width_of c.field) 1 low)
     ] in
     let head : HeadTaken v (field_text c.field Char (character digit)) = subst (HeadTaken v) (sym text) (digit_head v (word_form c.field.left_adj room (encode_utf8 digit)) some
-        (word_flush c.field.left_adj room (encode_utf8 digit) (subst HeadDigit (sym one) (digit_is c)) flush)) in
+    (word_flush c.field.left_adj room (encode_utf8 digit) (subst HeadDigit (sym one) (digit_is c)) flush)) in
     (character digit, character_fits c digit (low_scalar digit (omega (arith, digit_low c))) (digit_suits c), λ rest. head_taken v (field_text c.field Char (character digit)) rest head)
 
 front_form : (left : Bool) (room : ℕ) (text : List ℕ) → left ≡ false → room ≡ 0 → word_form left room text ≡ text
@@ -293,11 +298,10 @@ wide_opens v c h paired front low =
     let four : length (encode_utf8 letter) ≡ 4 = other_by (λ x. length (encode_utf8 x) ≡ 4) 65536 65537 (stop c) (length-encode 65536) (length-encode 65537) in
     let scalar : IsScalar letter = other_by IsScalar 65536 65537 (stop c) refl refl in
     let text : field_text c.field Char (character letter) ≡ encode_utf8 letter = character_is c.field letter (converts_character c.field.conversion_type paired.0) paired.1
-        ∙ front_form c.field.left_adj (width_of c.field - length (encode_utf8 letter)) (encode_utf8 letter) front (omega (arith, four, low)) in
-    (
+    ∙ front_form c.field.left_adj (width_of c.field - length (encode_utf8 letter)) (encode_utf8 letter) front (omega (arith, four, low)) in (
       character letter,
       character_fits c letter scalar (other_suits 65536 65537 (stop c) refl refl (λ e. omega arith)),
-      λ rest. subst (λ (t : List ℕ). IsTaken v (t ++ rest)) (sym text) (letter, first_char letter rest scalar, text_takes v letter h (other_by (λ x. is_blank x ≡ false) 65536 65537 (stop c) refl refl))
+      λ rest. subst (λ (t : List ℕ). IsTaken v (t ++ rest)) (sym text) (letter, first_char letter rest scalar, text_takes v letter h (other_by (λ x. is_blank x ≡ false) 65536 65537 (stop c) refl refl)),
     )
 
 character_opens : (v : ConversionType) (c : Column) → TakesSome v → IsPaired c Char → is_opening_taken v (character_opening c.field) ≡ true → OpensFit v c Char
@@ -321,13 +325,12 @@ pub followed : (c next : Column) (cs : List Column) (kind : Kind) (kinds : List 
 followed c next cs kind kinds none some paired whole never narrow h =
     let one = opening_taken c.field.conversion_type next kind some paired whole narrow h in
     let values = all_plain cs kinds never in
-    let taken = one.2 (next.after ++ columns_text cs kinds values.0) in
-    (
+    let taken = one.2 (next.after ++ columns_text cs kinds values.0) in (
       one.0 ∷ values.0,
       (one.1, values.1),
       (
         taken.0,
         ap (λ (t : List ℕ). first (chars t)) (behind_none c (columns_text (next ∷ cs) (kind ∷ kinds) (one.0 ∷ values.0)) none) ∙ taken.1,
-        subst (λ end. Takes c.field.conversion_type end taken.0) (sym (stop_none c none)) taken.2
-      )
+        subst (λ end. Takes c.field.conversion_type end taken.0) (sym (stop_none c none)) taken.2,
+      ),
     )

@@ -1,4 +1,4 @@
-use Rattle.std.proofs.Common.{◌≡◌, ◌≤◌, refl, sym, subst, ap, ◌∙◌}
+use Rattle.std.proofs.Common.{◌≤◌, refl, sym, subst, ap, ◌∙◌}
 use Rattle.std.specs.Str.{IsUtf8}
 use Rattle.row_format.specs.Columns.{width_of}
 use Rattle.separation.specs.Inner.Table.{field_opening, is_taken, is_opening_taken}
@@ -33,6 +33,6 @@ returns c =
     next_exactly column next.column.now c.args.later.now next.columns.now next.kind c.args.kinds.now next.kinds.now c.is_opening_taken.result c.in-Some-split.ensures.columns c.in-Some-split.ensures.kinds none c.requires.takes
     (subst (λ f. width_of f ≤ 2147483647) c.field-2.ensures c.field_opening.ensures.narrow)
     (c.is_opening_taken.ensures ∙ ap (is_opening_taken c.field.result.now.conversion_type) c.field_opening.ensures.opening
-      ∙ ap (λ f. is_opening_taken f.conversion_type (field_opening c.field-2.result.now next.kind)) c.field.ensures
-      ∙ ap (λ f. is_opening_taken column.field.conversion_type (field_opening f next.kind)) c.field-2.ensures)
+    ∙ ap (λ f. is_opening_taken f.conversion_type (field_opening c.field-2.result.now next.kind)) c.field.ensures
+    ∙ ap (λ f. is_opening_taken column.field.conversion_type (field_opening f next.kind)) c.field-2.ensures)
     c.requires.paired c.requires.whole
