@@ -118,7 +118,7 @@ some_length : (n : ℕ) (ds t : List ℕ) → (w : Writes n ds) → (length (ds 
 some_length n ds t w = rw w.is (not_zero w.first (w.others ++ t))
 
 -- a digit is no such byte
-digit_not : (d x : ℕ) → is_ascii_digit d ≡ true → is_ascii_digit x ≡ false → (d == x) ≡ false
+pub digit_not : (d x : ℕ) → is_ascii_digit d ≡ true → is_ascii_digit x ≡ false → (d == x) ≡ false
 digit_not d x h k = grind (arith, nat_tests)
 
 number_begins_not : (n x : ℕ) (ds t : List ℕ) → Writes n ds → is_ascii_digit x ≡ false → begins (ds ++ t) x ≡ false
@@ -278,7 +278,7 @@ argument_read size i ds t w stop follows =
     rw (some_length i ds t w, number_begins_not i 125 ds t w refl, number_begins_not i 58 ds t w refl, first, rest, follows, run_taken is_ascii_digit ds t (λ x h. h) w.digits stop, reads_usize i ds w) refl
 
 -- what stands behind the number
-abbrev closing : List ℕ → List ℕ → List ℕ
+abbrev pub closing : List ℕ → List ℕ → List ℕ
 closing options rest = behind_colon options ++ 125 ∷ rest
 
 spec_read : (size : ℕ) (o : Options) (rest : List ℕ) → IsBody o → spec_of size (closing (written Formatx o) rest) ≡ Ok (spec_by o, 125 ∷ rest)
@@ -299,7 +299,7 @@ closing_stop (c ∷ cs) rest = (refl, refl)
 pub braces_rest : (i : ℕ) (options rest : List ℕ) → in_braces i options ++ rest ≡ 123 ∷ (numeral 10 false i ++ closing options rest)
 braces_rest i options rest = rw (braces i options) (simp append_assoc)
 
-pub placeholder_by : ℕ → Options → ℕ → List ℕ → List ℕ → Placeholder
+unfoldable pub placeholder_by : ℕ → Options → ℕ → List ℕ → List ℕ → Placeholder
 placeholder_by i o size text rest = record { argument = Positional i; spec = spec_by o; span = between size text rest }
 
 pub placeholder_read : (size i : ℕ) (o : Options) (rest : List ℕ) → IsBody o → Writes i (numeral 10 false i)

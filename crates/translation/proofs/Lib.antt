@@ -5,3 +5,6 @@ pub mod Steps
 pub mod Decimals
 pub mod Body
 pub mod FormatxRead
+pub mod FormatxSegments
+pub mod Glyphs
+pub mod FormatxRows
