@@ -1,25 +1,21 @@
 //! The calls of scan_fmt that lines name.
 #![tactic(auto)]
 
+use numerals::NoMemory;
 use replay::{Fault, place_of, undo_texts};
 use scan_fmt::parse::{ReadAs, ReadHex, ReadToken, Tokens, scan};
 use std::alloc::Global;
 use std::fmt::Display;
 
-/// The answer of a call, whose inputs still have their escapes. Formats with expressions wait.
+/// The answer of a call, whose inputs still have their escapes. A pattern past the limit of `regex` on size is an answer
+/// too.
 pub fn answer(alloc: Global, call: &str, inputs: &[&str]) -> Result<Vec<String>, Fault> {
-    if inputs.first().is_some_and(|format| has_expression(format)) {
-        return Err(Fault::Waits);
-    }
     let inputs = undo_texts(alloc, inputs)?;
     match (call.as_bytes(), inputs.as_slice()) {
-        (b"scan", [format, input]) => {
-            let mut fields = vec![in alloc; String::from_str(alloc, "ok")?]?;
-            'tokens: for token in scan(alloc, input.as_str(), format.as_str())? {
-                fields.push(format!(in alloc; "={token}")?)?;
-            }
-            Ok(fields)
-        }
+        (b"scan", [format, input]) => match scan(alloc, input.as_str(), format.as_str()) {
+            Ok(tokens) => scanned(alloc, tokens),
+            Err(NoMemory) => Ok(vec![in alloc; String::from_str(alloc, "err:NoMemory")?]?),
+        },
         (b"read", [format, input, types @ ..]) => {
             let mut tokens = scan(alloc, input.as_str(), format.as_str())?;
             let mut fields = vec![in alloc; String::from_str(alloc, "ok")?]?;
@@ -32,22 +28,13 @@ pub fn answer(alloc: Global, call: &str, inputs: &[&str]) -> Result<Vec<String>,
     }
 }
 
-/// Whether a scan format holds a field of an expression: `{`, maybe a `*`, maybe digits, and `/`.
-fn has_expression(format: &str) -> bool {
-    let mut rest = format;
-    'braces: while let Some((_, after)) = rest.split_once('{') {
-        if let Some(escaped) = after.strip_prefix('{') {
-            rest = escaped;
-        } else {
-            let field = after.strip_prefix('*').unwrap_or(after);
-            let field = field.trim_start_matches(|c: char| c.is_ascii_digit());
-            if field.starts_with('/') {
-                return true;
-            }
-            rest = after;
-        }
+/// `ok` and the tokens.
+fn scanned(alloc: Global, tokens: Tokens) -> Result<Vec<String>, Fault> {
+    let mut fields = vec![in alloc; String::from_str(alloc, "ok")?]?;
+    'tokens: for token in tokens {
+        fields.push(format!(in alloc; "={token}")?)?;
     }
-    false
+    Ok(fields)
 }
 
 /// Reads the next token at the named type.

@@ -1,27 +1,26 @@
 -- A planned text is cut into the planned directives.
-use Rattle.std.proofs.Common.{eqb, cond, not, ◌&&◌, ◌≡◌, ◌≢◌, ◌<◌, ◌≤◌, ◌⊎◌, ◌^◌, ◌-◌, ◌+◌, ℕ, Bool, true, false, List, [], ◌∷◌, ◌++◌, length, Option, Some, None, sym, ap, subst, refl, inl, inr, ◌∙◌, arith, append_assoc, length-append}
+use Rattle.std.proofs.Common.{cond, not, ◌&&◌, ◌≡◌, ◌<◌, ◌≤◌, ◌^◌, ◌-◌, ◌+◌, ℕ, Bool, true, false, List, [], ◌∷◌, ◌++◌, length, Option, Some, None, sym, ap, subst, refl, ◌∙◌, arith, append_assoc}
 use Rattle.std.specs.List.{AllByRecursion}
 use Rattle.std.specs.Prelude.{nat_le}
 use Rattle.std.specs.Str.{chars, IsUtf8, IsAscii}
 use Rattle.std.specs.Str.Parse.{AllDigits, digits_value}
-use Rattle.std.proofs.lemmas.Bool.{cases_Bool, ne_eqb, lt-ltb, and_parts, leb-true}
+use Rattle.std.proofs.lemmas.Bool.{ne_eqb, lt-ltb, and_parts, leb-true}
 use Rattle.std.proofs.lemmas.Str.{chars-append, chars-IsAscii, chars-nil, IsUtf8-from_ascii, IsUtf8-append, IsUtf8-nil}
 use Rattle.numerals.specs.Numeral.{numeral}
 use Rattle.numerals.proofs.Steps.{numeral-AllDigits, digits_value-numeral}
-use Rattle.numerals.proofs.Reading.{numeral-IsAscii}
 use Rattle.sprintf.specs.Field.{prefix_of}
 use Rattle.sprintf.specs.declared.parser.ConversionSpecifier.{ConversionSpecifier}
 use Rattle.sprintf.specs.declared.parser.ConversionType.{ConversionType}
 use Rattle.sprintf.specs.declared.parser.ConversionType.TheVariants.{DecInt, OctInt, HexIntLower, HexIntUpper, Char, String}
-use Rattle.scan_fmt.specs.Directives.{is_blank, after_blanks, first, letter, limit_of, Notation, Decimal, Hexadecimal, Characters, Number, Until, Solid, Shape, Directive, Exactly, Field, AtEnd, Limits, Spells, Cuts, NoDirective, star}
+use Rattle.scan_fmt.specs.Directives.{is_blank, after_blanks, first, letter, limit_of, Notation, Decimal, Hexadecimal, Number, Directive, Exactly, Field, Cuts}
 use Rattle.values.specs.declared.kind.Kind.{Kind}
 use Rattle.values.specs.declared.kind.Kind.TheVariants.{U8, U16, U32, U64, Usize, I8, I16, I32, I64, Isize, Word, Char as CharKind}
 use Rattle.row_format.specs.Columns.{Column, Columns, width_of}
 use Rattle.row_format.specs.Fit.{stop}
 use Rattle.row_format.specs.Laws.{IsText, AreTexts}
 use Rattle.row_format.specs.Plannable.{Converts, IsPaired, IsUnpaired, Never, is_number, is_signed, by_bits, greatest_digits, greatest_length, is_exact}
-use Rattle.row_format.specs.Planned.{escaped, escaped_byte, number_field, text_field, upper_field, field_by, planned_field, planned_columns, planned_text}
-use Rattle.row_laws.specs.Inner.Directives.{exactly, limit_when, text_shape, upper_limit, shape_by, shape_of, front_by, front_of, column_directives, planned_directives}
+use Rattle.row_format.specs.Planned.{escaped, escaped_byte, number_field, text_field, field_by, planned_field, planned_columns, planned_text}
+use Rattle.row_laws.specs.Inner.Directives.{exactly, limit_when, text_shape, shape_by, shape_of, front_by, front_of, column_directives, planned_directives}
 use Rattle.scan_fmt.proofs.Characters.{ascii_from}
 use Rattle.scan_fmt.proofs.Cutting.{spells_longer}
 use Rattle.scan_fmt.proofs.Digits.{each_append, digits_ascii}
@@ -195,20 +194,26 @@ first_next : (cs more : List ℕ) (c : ℕ) → first cs ≡ Some c → first (e
 first_next [] more c e = absurd (cc)
 first_next (x ∷ cs) more c e = rw (append_assoc (escaped_byte x) (escaped cs) more) (first_escaped x (escaped cs ++ more) ∙ e)
 
+-- The characters of a column's text in front of a format.
+column_chars : (c : Column) (kind : Kind) (format : List ℕ) → IsUtf8 c.after → width_of c.field ≤ 2147483647 → IsUtf8 format
+    → (chars (planned_field c kind ++ (escaped c.after ++ format)) ≡ planned_field c kind ++ (escaped (chars c.after) ++ chars format)) × IsUtf8 (planned_field c kind ++ (escaped c.after ++ format))
+column_chars c kind format after small utf8 =
+    let field = planned_field c kind in
+    let low : IsAscii field = ascii_from field (field_low c.field.conversion_type c.field.alt_form (is_exact c.field kind) (width_of c.field) (stop c) small) in
+    let literal = chars_escaped c.after after in
+    let behind : chars (escaped c.after ++ format) ≡ escaped (chars c.after) ++ chars format = chars-append (escaped c.after) format literal.1 ∙ ap (λ (t : List ℕ). t ++ chars format) literal.0 in
+    let is : chars (field ++ (escaped c.after ++ format)) ≡ field ++ chars (escaped c.after ++ format) =
+    chars-append field (escaped c.after ++ format) (IsUtf8-from_ascii field low) ∙ ap (λ (t : List ℕ). t ++ chars (escaped c.after ++ format)) (chars-IsAscii field low) in
+    let all : IsUtf8 (escaped c.after ++ format) = IsUtf8-append (escaped c.after) format literal.1 utf8 in
+    (is ∙ ap (λ (t : List ℕ). field ++ t) behind, IsUtf8-append field (escaped c.after ++ format) (IsUtf8-from_ascii field low) all)
+
 -- A column in front of a format.
 column_cut : (c : Column) (kind : Kind) (format : List ℕ) (ds : List Directive) → IsPaired c kind → IsUtf8 c.after → width_of c.field ≤ 2147483647 → IsUtf8 format → Cuts (chars format) ds
-    → Cuts (chars (planned_field c kind ++ (escaped c.after ++ format))) (exactly (front_of c) ++ (Field true (shape_of c kind) ∷ (exactly (chars c.after) ++ ds))) × IsUtf8 (planned_field c kind ++ (escaped c.after ++ format))
+    → Cuts (chars (planned_field c kind ++ (escaped c.after ++ format))) (exactly (front_of c) ++ (Field true (shape_of c kind) ∷ (exactly (chars c.after) ++ ds)))
 column_cut c kind format ds pair after small utf8 cut =
-    let low : IsAscii (planned_field c kind) = ascii_from (planned_field c kind) (field_low c.field.conversion_type c.field.alt_form (is_exact c.field kind) (width_of c.field) (stop c) small) in
-    let literal = chars_escaped c.after after in
-    let field_utf8 : IsUtf8 (planned_field c kind) = IsUtf8-from_ascii (planned_field c kind) low in
-    let is : chars (planned_field c kind ++ (escaped c.after ++ format)) ≡ planned_field c kind ++ (escaped (chars c.after) ++ chars format) =
-    chars-append (planned_field c kind) (escaped c.after ++ format) field_utf8 ∙ ap (λ (t : List ℕ). t ++ chars (escaped c.after ++ format)) (chars-IsAscii (planned_field c kind) low)
-    ∙ ap (λ (t : List ℕ). planned_field c kind ++ t) (chars-append (escaped c.after) format literal.1) ∙ ap (λ (t : List ℕ). planned_field c kind ++ (t ++ chars format)) literal.0 in
-    (subst (λ (t : List ℕ). Cuts t (exactly (front_of c) ++ (Field true (shape_of c kind) ∷ (exactly (chars c.after) ++ ds)))) (sym is)
+    subst (λ (t : List ℕ). Cuts t (exactly (front_of c) ++ (Field true (shape_of c kind) ∷ (exactly (chars c.after) ++ ds)))) (sym (column_chars c kind format after small utf8).0)
     (cuts_field c.field.conversion_type kind c.field.alt_form (is_exact c.field kind) (width_of c.field) (stop c) (escaped (chars c.after) ++ chars format) (exactly (chars c.after) ++ ds)
-    pair.0 (exact_limit c.field kind small) (first_next (chars c.after) (chars format)) (cuts_exactly (chars c.after) (chars format) ds cut)),
-    IsUtf8-append (planned_field c kind) (escaped c.after ++ format) field_utf8 (IsUtf8-append (escaped c.after) format literal.1 utf8))
+    pair.0 (exact_limit c.field kind small) (first_next (chars c.after) (chars format)) (cuts_exactly (chars c.after) (chars format) ds cut))
 
 columns_cut : (cs : List Column) (kinds : List Kind) → AreTexts cs → Never IsUnpaired cs kinds → Cuts (chars (planned_columns cs kinds)) (column_directives cs kinds) × IsUtf8 (planned_columns cs kinds)
 columns_cut [] [] texts pairs = (subst (λ (t : List ℕ). Cuts t []) (sym chars-nil) cuts_end, IsUtf8-nil)
@@ -216,7 +221,8 @@ columns_cut [] (kind ∷ kinds) texts pairs = absurd (pairs tt)
 columns_cut (c ∷ cs) [] texts pairs = absurd (pairs tt)
 columns_cut (c ∷ cs) (kind ∷ kinds) texts pairs =
     let rest = columns_cut cs kinds texts.2 pairs.1 in
-    column_cut c kind (planned_columns cs kinds) (column_directives cs kinds) (paired_of c kind pairs.0) texts.0 texts.1 rest.1 rest.0
+    let cut = column_cut c kind (planned_columns cs kinds) (column_directives cs kinds) (paired_of c kind pairs.0) texts.0 texts.1 rest.1 rest.0 in
+    (cut, (column_chars c kind (planned_columns cs kinds) texts.0 texts.1 rest.1).1)
 
 -- A planned text is cut into the planned directives.
 pub planned_cut : (format : Columns) (kinds : List Kind) → IsText format → Never IsUnpaired format.columns kinds → Cuts (chars (planned_text format kinds)) (planned_directives format kinds)

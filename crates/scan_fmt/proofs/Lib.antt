@@ -3,9 +3,11 @@ pub mod Digits
 pub mod Characters
 pub mod Options
 pub mod Spelled
+pub mod Patterns
 pub mod Runs
 pub mod OneAnswer
 pub mod Cutting
 pub mod Taking
+pub mod Expressions
 pub mod Pieces
 pub mod SomeAnswer

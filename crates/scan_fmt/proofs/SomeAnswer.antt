@@ -4,7 +4,7 @@ use Rattle.std.specs.List.{AllByRecursion}
 use Rattle.std.specs.Char.{digit_value}
 use Rattle.std.specs.Str.Parse.{AllDigits}
 use Rattle.std.proofs.lemmas.Bool.{cases_Bool, cases_eq, cases_lt}
-use Rattle.scan_fmt.specs.Directives.{Run, Until, Solid, Among, Notation, Decimal, Hexadecimal, Float, Shape, Characters, Number, Directive, Exactly, Field, AtEnd, first, is_blank, after_blanks}
+use Rattle.scan_fmt.specs.Directives.{Run, Until, Solid, Among, Notation, Decimal, Hexadecimal, Float, Shape, Characters, Number, Directive, Exactly, Field, Expression, AtEnd, first, is_blank, after_blanks}
 use Rattle.scan_fmt.specs.Sets.{is_in_set}
 use Rattle.scan_fmt.specs.Scanned.{IsLongest, Optionally, IsSigned, IsPrefixed, IsFloat, IsNumber, begins_0x, Within, Suits, MayTake, Token, Outcome, Found, Mismatch, with_token, Passes, Refuses, ended, refused, passed, Takes, tokens_of, SomeAnswer}
 use Rattle.scan_fmt.proofs.Longest.{longest_stops, longest_cons}
@@ -121,6 +121,7 @@ unfolding Decided
 decided (Exactly c) [] = inl (λ e. cc)
 decided (Exactly c) (x ∷ xs) = elim (cases_eq x c) [ inl e ↦ inr (None, xs, (ap (λ y. y ∷ xs) e, refl)) | inr n ↦ inl (λ e. n (some_same x c e)) ]
 decided (Field stored s) input = let there = found s input in inr (_, there.rest, (there.taken, there.longest, refl))
+decided (Expression stored pattern) input = inr (_, _, (refl, refl))
 decided AtEnd input = inl tt
 
 is_end : (text : List ℕ) → (text ≡ []) ⊎ (text ≢ [])

@@ -1,5 +1,5 @@
 -- What the rest of the directives come to over the rest of the input, after the pieces so far; and the directives of a format so far.
-use Rattle.std.proofs.Common.{◌≡◌, ◌≢◌, ◌+◌, ◌≤◌, ℕ, Bool, true, false, cond, List, [], ◌∷◌, ◌++◌, length, take, drop, map, Option, Some, None, sym, ap, subst, refl, inl, inr, ◌∙◌, arith, append_assoc, length-append, eqb}
+use Rattle.std.proofs.Common.{◌≡◌, ◌≢◌, ◌+◌, ◌≤◌, ℕ, Bool, true, false, cond, List, [], ◌∷◌, ◌++◌, length, take, drop, map, Some, None, sym, ap, subst, refl, inl, inr, ◌∙◌, arith, append_assoc, length-append, eqb}
 use Rattle.std.specs.List.{AllByRecursion}
 use Rattle.std.specs.Str.{chars, IsUtf8, encode_utf8_all}
 use Rattle.std.proofs.lemmas.Bool.{cases_Bool}
@@ -8,10 +8,11 @@ use Rattle.std.proofs.lemmas.Str.{chars-append, encodes-chars, encodes-append, I
 use Rattle.std.specs.List.{slice_index}
 use Rattle.std.specs.Str.Parse.{without_leading_plus}
 use Rattle.scan_fmt.specs.declared.slices.Piece.{Piece}
-use Rattle.scan_fmt.specs.Directives.{Shape, Characters, Number, Decimal, Hexadecimal, Float, Directive, Exactly, Field, AtEnd, Spells, NoDirective, Cuts, is_blank, after_blanks}
-use Rattle.scan_fmt.specs.Scanned.{Token, token_text, begins_0x, Outcome, Found, Mismatch, with_token, Passes, Refuses, ended, refused, passed, Takes, tokens_of, ScannedTexts}
+use Rattle.scan_fmt.specs.Directives.{Shape, Characters, Number, Decimal, Hexadecimal, Float, Directive, Spells, NoDirective, Cuts, is_blank, after_blanks}
+use Rattle.scan_fmt.specs.Scanned.{IsLongest, MayTake, Token, token_text, begins_0x, Outcome, Found, Mismatch, with_token, Passes, Refuses, ended, refused, passed, Takes, tokens_of, ScannedTexts}
 use Rattle.scan_fmt.specs.Slices.{piece_text, IsSlice, IsPiece, ArePieces, AreInOrder, ScannedPieces}
 use Rattle.scan_fmt.specs.Inner.Parts.{TakesPieces}
+use Rattle.scan_fmt.specs.Inner.Found.{AreParts}
 
 -- with these tokens in front
 abbrev pub after : List Token → Outcome → Outcome
@@ -79,17 +80,6 @@ here_front input front rest here whole u v is =
     let blanks = blanks_front (chars rest) in
     front_more input front rest here (encode_utf8_all blanks.0) whole (rest_of rest here blanks.0 u v (blanks.1 ∙ ap (λ (t : List ℕ). blanks.0 ++ t) (sym is)))
 
-passes_front : (d : Directive) (input rest : List ℕ) (token : Option Token) → Passes d input token rest → (taken : List ℕ) × (input ≡ taken ++ rest)
-passes_front (Exactly c) input rest token h = (c ∷ [], h.0)
-passes_front (Field stored s) input rest token (taken, long, is) = (taken, long.whole)
-passes_front AtEnd input rest token h = absurd h
-
--- behind what a directive passes
-pub left_front : (input front here left : List ℕ) (d : Directive) (token : Option Token) → input ≡ front ++ here → IsUtf8 here → IsUtf8 left → Passes d (chars here) token (chars left) → Front input left (length front)
-left_front input front here left d token whole u v passes =
-    let taken = passes_front d (chars here) (chars left) token passes in
-    front_more input front here left (encode_utf8_all taken.0) whole (rest_of here left taken.0 u v taken.1)
-
 -- what was taken ends with the token's text
 dropped_if : (b : Bool) (text : List ℕ) → (dropped : List ℕ) × (text ≡ dropped ++ cond b (drop 2 text) text)
 dropped_if true text = (take 2 text, sym (take-append-drop 2 text))
@@ -104,22 +94,21 @@ text_front (Number Decimal limit) taken = plus_front taken
 text_front (Number Hexadecimal limit) taken = dropped_if (begins_0x taken) taken
 text_front (Number Float limit) taken = plus_front taken
 
-passes_token : (d : Directive) (input rest : List ℕ) (token : Token) → Passes d input (Some token) rest → (dropped : List ℕ) × (input ≡ dropped ++ (token.text ++ rest))
-passes_token (Exactly c) input rest token h = absurd (let bad : Some token ≡ None = h.1 in cc)
-passes_token (Field true s) input rest token (taken, long, is) =
-    let front = text_front s taken in
-    let same : token ≡ record { text = token_text s taken; behind = rest } = cc in
-    (front.0, long.whole ∙ ap (λ (t : List ℕ). t ++ rest) front.1 ∙ append_assoc front.0 (token_text s taken) rest ∙ ap (λ (t : List ℕ). front.0 ++ (t ++ rest)) (sym (ap (λ (t : Token). t.text) same)))
-passes_token (Field false s) input rest token (taken, long, is) = absurd (let bad : Some token ≡ None = is in cc)
-passes_token AtEnd input rest token h = absurd h
+-- what lies in an input that a shape has passed
+pub shape_front : (s : Shape) (input taken rest : List ℕ) → IsUtf8 input → IsUtf8 rest → IsLongest (MayTake s) (chars input) (chars taken) (chars rest) → (front : List ℕ) × (input ≡ front ++ rest)
+shape_front s input taken rest u v long = (encode_utf8_all (chars taken), rest_of input rest (chars taken) u v long.whole)
 
--- the token and what is left stand behind a front
-pub token_front : (input front here token left : List ℕ) (d : Directive) → input ≡ front ++ here → IsUtf8 here → IsUtf8 token → IsUtf8 left → Passes d (chars here) (Some (record { text = chars token; behind = chars left })) (chars left)
-    → Front input (token ++ left) (length front)
-token_front input front here token left d whole u v w passes =
-    let dropped = passes_token d (chars here) (chars left) (record { text = chars token; behind = chars left }) passes in
-    front_more input front here (token ++ left) (encode_utf8_all dropped.0) whole
-    (rest_of here (token ++ left) dropped.0 u (IsUtf8-append token left v w) (dropped.1 ∙ ap (λ (t : List ℕ). dropped.0 ++ t) (sym (chars-append token left v))))
+pub shape_parts : (s : Shape) (input taken token rest : List ℕ) → IsUtf8 input → IsUtf8 token → IsUtf8 rest → IsLongest (MayTake s) (chars input) (chars taken) (chars rest) → chars token ≡ token_text s (chars taken) → AreParts input token rest rest
+shape_parts s input taken token rest u v w long is =
+    let front = text_front s (chars taken) in
+    let whole : chars input ≡ front.0 ++ chars (token ++ rest) =
+    long.whole ∙ ap (λ (t : List ℕ). t ++ chars rest) front.1 ∙ append_assoc front.0 (token_text s (chars taken)) (chars rest)
+    ∙ ap (λ (t : List ℕ). front.0 ++ t) (ap (λ (t : List ℕ). t ++ chars rest) (sym is) ∙ sym (chars-append token rest v)) in
+    record { front = encode_utf8_all front.0; whole = rest_of input (token ++ rest) front.0 u (IsUtf8-append token rest v w) whole; skipped = []; beyond = refl }
+
+-- behind a character
+pub character_front : (c : ℕ) (input rest : List ℕ) → IsUtf8 input → IsUtf8 rest → chars input ≡ c ∷ chars rest → (front : List ℕ) × (input ≡ front ++ rest)
+character_front c input rest u v is = (encode_utf8_all (c ∷ []), rest_of input rest (c ∷ []) u v is)
 
 -- what the rests come to comes after what was done, and so do its pieces
 pub record Placed (all : List Directive) (input : List ℕ) (ds : List Directive) (rest : List ℕ) (pieces : List Piece) : Type 0 where
@@ -133,11 +122,11 @@ pub record Placed (all : List Directive) (input : List ℕ) (ds : List Directive
 pub placed_start : (all : List Directive) (input : List ℕ) → Placed all input all input []
 placed_start all input = record { done = []; goes = λ out h. subst (Takes all (chars input)) (sym (after_nil out)) h; are = tt; front = []; whole = refl; in_order = λ more h. h }
 
-pub placed_passed : (all ds : List Directive) (d : Directive) (input rest here left : List ℕ) (pieces : List Piece) (so : Placed all input (d ∷ ds) rest pieces) → IsUtf8 rest → IsUtf8 here → IsUtf8 left → chars here ≡ after_blanks (chars rest) → chars here ≢ []
-    → Passes d (chars here) None (chars left) → Placed all input ds left pieces
-placed_passed all ds d input rest here left pieces so u v w is some passes =
+pub placed_passed : (all ds : List Directive) (d : Directive) (input rest here left : List ℕ) (pieces : List Piece) (so : Placed all input (d ∷ ds) rest pieces) → IsUtf8 rest → IsUtf8 here → chars here ≡ after_blanks (chars rest) → chars here ≢ []
+    → Passes d (chars here) None (chars left) → (front : List ℕ) × (here ≡ front ++ left) → Placed all input ds left pieces
+placed_passed all ds d input rest here left pieces so u v is some passes lies =
     let behind = here_front input so.front rest here so.whole u v is in
-    let beyond = left_front input behind.front here left d None behind.whole v w passes in
+    let beyond = front_more input behind.front here left lies.0 behind.whole lies.1 in
     record {
       done = so.done;
       goes = λ out h. so.goes out (passed (subst (λ (t : List ℕ). t ≢ []) is some) None (chars left) out (subst (λ (t : List ℕ). Passes d t None (chars left)) is passes) h refl);
@@ -147,23 +136,28 @@ placed_passed all ds d input rest here left pieces so u v w is some passes =
       in_order = λ more h. so.in_order more (order_weaker (length so.front) (length beyond.front) more (omega (arith, behind.longer, beyond.longer)) h);
     }
 
-pub placed_taken : (all ds : List Directive) (d : Directive) (input rest here token left : List ℕ) (pieces : List Piece) (p : Piece) (so : Placed all input (d ∷ ds) rest pieces) → IsUtf8 rest → IsUtf8 here → IsUtf8 token → IsUtf8 left
-    → chars here ≡ after_blanks (chars rest) → chars here ≢ [] → Passes d (chars here) (Some (record { text = chars token; behind = chars left })) (chars left) → IsPiece input p (record { text = chars token; behind = chars left })
-    → p.start + (length token + length left) ≡ length input → p.end + length left ≡ length input → Placed all input ds left (pieces ++ p ∷ [])
-placed_taken all ds d input rest here token left pieces p so u v t w is some passes piece starts ends =
-    let behind = here_front input so.front rest here so.whole u v is in
-    let beyond = token_front input behind.front here token left d behind.whole v t w passes in
-    let bytes : length input ≡ length beyond.front + (length token + length left) = ap length beyond.whole ∙ length-append beyond.front (token ++ left) ∙ ap (λ n. length beyond.front + n) (length-append token left) in
-    let held : Token = record { text = chars token; behind = chars left } in
+-- what stands before a token, and before what stands behind it
+pub token_front : (input front here token behind left : List ℕ) → input ≡ front ++ here → AreParts here token behind left → Front input (token ++ behind) (length front)
+token_front input front here token behind left whole lies = front_more input front here (token ++ behind) lies.front whole lies.whole
+
+pub placed_taken : (all ds : List Directive) (d : Directive) (input rest here token behind left : List ℕ) (pieces : List Piece) (p : Piece) (so : Placed all input (d ∷ ds) rest pieces) → IsUtf8 rest → IsUtf8 here
+    → chars here ≡ after_blanks (chars rest) → chars here ≢ [] → Passes d (chars here) (Some (record { text = chars token; behind = chars behind })) (chars left) → AreParts here token behind left
+    → IsPiece input p (record { text = chars token; behind = chars behind }) → p.start + (length token + length behind) ≡ length input → p.end + length behind ≡ length input → Placed all input ds left (pieces ++ p ∷ [])
+placed_taken all ds d input rest here token behind left pieces p so u v is some passes lies piece starts ends =
+    let reached = here_front input so.front rest here so.whole u v is in
+    let before = token_front input reached.front here token behind left reached.whole lies in
+    let beyond = front_more input (before.front ++ token) behind left lies.skipped (before.whole ∙ sym (append_assoc before.front token behind)) lies.beyond in
+    let bytes : length input ≡ length before.front + (length token + length behind) = ap length before.whole ∙ length-append before.front (token ++ behind) ∙ ap (λ n. length before.front + n) (length-append token behind) in
+    let held : Token = record { text = chars token; behind = chars behind } in
     record {
       done = so.done ++ held ∷ [];
       goes = λ out h. subst (Takes all (chars input)) (after_token so.done held out)
           (so.goes (with_token (Some held) out) (passed (subst (λ (t : List ℕ). t ≢ []) is some) (Some held) (chars left) out (subst (λ (t : List ℕ). Passes d t (Some held) (chars left)) is passes) h refl));
       are = pieces_more input pieces so.done p held so.are piece;
-      front = beyond.front ++ token;
-      whole = beyond.whole ∙ sym (append_assoc beyond.front token left);
+      front = beyond.front;
+      whole = beyond.whole;
       in_order = λ more h. subst (AreInOrder 0) (sym (append_assoc pieces (p ∷ []) more))
-          (so.in_order (p ∷ more) (omega (arith, behind.longer, beyond.longer, bytes, starts), order_weaker p.end (length (beyond.front ++ token)) more (omega (arith, bytes, ends, length-append beyond.front token)) h));
+          (so.in_order (p ∷ more) (omega (arith, reached.longer, before.longer, bytes, starts), order_weaker p.end (length beyond.front) more (omega (arith, bytes, ends, beyond.longer, length-append before.front token)) h));
     }
 
 placed_done : (all ds : List Directive) (input rest : List ℕ) (pieces : List Piece) → Placed all input ds rest pieces → Takes ds (chars rest) (Found []) → TakesPieces all input pieces

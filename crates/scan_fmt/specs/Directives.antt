@@ -1,7 +1,8 @@
 -- A format is cut into directives: characters that the input must have, fields that take from it, and the demand that it has ended.
-use Rattle.std.specs.Prelude.{◌≡◌, ◌≢◌, ℕ, ◌^◌, ◌||◌, ◌==◌, ◌⊎◌, nat_lt, Bool, true, false, if◌then◌else◌, List, [], ◌∷◌, ◌++◌, codes, Option, None, Some}
+use Rattle.std.specs.Prelude.{◌≡◌, ◌≢◌, ℕ, ◌^◌, ◌||◌, ◌==◌, ◌⊎◌, nat_lt, Bool, true, false, if◌then◌else◌, List, [], ◌∷◌, ◌++◌, codes, Option, None, Some, IsSome}
 use Rattle.std.specs.Str.{byte}
 use Rattle.std.specs.Str.Parse.{AllDigits, digits_value}
+use Rattle.scan_fmt.specs.Expressions.{IsDelimited, expression}
 use Rattle.scan_fmt.specs.Sets.{IsListing}
 
 -- scanner white space: space, tab, line feed, carriage return
@@ -33,10 +34,11 @@ pub data Shape : Type 0 where
   Characters : Run → Shape
   Number : Notation → Option ℕ → Shape
 
--- a character that the input must have, a field and whether its token is stored, or the demand that the input has ended
+-- a character that the input must have, a field and whether its token is stored, the same of an expression with this pattern, or the demand that the input has ended
 pub data Directive : Type 0 where
   Exactly : ℕ → Directive
   Field : Bool → Shape → Directive
+  Expression : Bool → List ℕ → Directive
   AtEnd : Directive
 
 -- a star keeps the token from being stored
@@ -70,13 +72,18 @@ SpellsShape (Characters Solid) text rest = (any : Option ℕ) × Limits any (cod
 SpellsShape (Characters (Among inverted listing)) text rest = (any : Option ℕ) × Limits any (byte "[" ∷ (caret inverted ++ (listing ++ (codes "]}" ++ rest)))) text × IsListing inverted listing
 SpellsShape (Number notation limit) text rest = Limits limit (letter notation ∷ byte "}" ∷ rest) text
 
+-- what stands in an expression's braces after its star, and then the rest: digits, which change nothing, and between slashes the pattern, which `regex` reads
+abbrev pub SpellsExpression : List ℕ → List ℕ → List ℕ → Type 0
+SpellsExpression pattern text rest = (any : Option ℕ) × Limits any (byte "/" ∷ (pattern ++ (codes "/}" ++ rest))) text × IsDelimited pattern × IsSome (expression pattern)
+
 -- the format spells the directive and then the rest: a character but a brace stands for itself, `{{` for an opening brace, `}` and any character for that one; a star and digits change nothing at `{e}`
 abbrev pub Spells : Directive → List ℕ → List ℕ → Type 0
 Spells (Exactly c) format rest = ((format ≡ c ∷ rest) × (c ≢ byte "{") × (c ≢ byte "}")) ⊎ (((format ≡ codes "{{" ++ rest) × (c ≡ byte "{")) ⊎ (format ≡ byte "}" ∷ c ∷ rest))
 Spells (Field stored shape) format rest = (text : List ℕ) × (format ≡ byte "{" ∷ (star stored ++ text)) × SpellsShape shape text rest
+Spells (Expression stored pattern) format rest = (text : List ℕ) × (format ≡ byte "{" ∷ (star stored ++ text)) × SpellsExpression pattern text rest
 Spells AtEnd format rest = (text : List ℕ) × (starred : Bool) × (any : Option ℕ) × (format ≡ byte "{" ∷ (star starred ++ text)) × Limits any (codes "e}" ++ rest) text
 
--- no directive stands in front: the format has ended, it is a lone `}`, or its field is malformed
+-- no directive stands in front: the format has ended, it is a lone `}`, or its field is malformed or of a pattern that `regex` doesn't read
 abbrev pub NoDirective : List ℕ → Type 0
 NoDirective format = (d : Directive) (rest : List ℕ) → Spells d format rest → ⊥
 

@@ -1,3 +1,5 @@
 -- Words that private calls and proofs cite.
+pub mod Built
 pub mod Fields
+pub mod Found
 pub mod Parts

@@ -1,4 +1,5 @@
 pub mod Directives
+pub mod Expressions
 pub mod Inner
 pub mod Readings
 pub mod Scanned

@@ -1,11 +1,13 @@
 -- The tokens that a format takes from an input: each field takes the longest front of its shape.
-use Rattle.std.specs.Prelude.{◌≡◌, ◌≢◌, ℕ, ◌<◌, ◌≤◌, ◌==◌, ◌&&◌, ◌⊎◌, Bool, true, false, if◌then◌else◌, List, [], ◌∷◌, ◌++◌, length, drop, map, slice_index, Option, None, Some, ⊤}
+use Rattle.std.specs.Prelude.{◌≡◌, ◌≢◌, ℕ, ◌<◌, ◌≤◌, ◌==◌, ◌&&◌, ◌⊎◌, Bool, true, false, if◌then◌else◌, List, [], ◌∷◌, ◌++◌, length, drop, map, slice_index, slice_range, encode_utf8_all, Option, None, Some, ⊤}
 use Rattle.std.specs.List.{AllByRecursion}
 use Rattle.std.specs.Char.{digit_value}
-use Rattle.std.specs.Str.{byte}
+use Rattle.std.specs.Str.{byte, chars}
 use Rattle.std.specs.Str.Parse.{AllDigits, without_leading_plus}
+use Rattle.regex.specs.Patterns.{Match}
+use Rattle.scan_fmt.specs.Expressions.{token_span, found_in}
 use Rattle.scan_fmt.specs.Sets.{is_in_set}
-use Rattle.scan_fmt.specs.Directives.{is_blank, after_blanks, first, Run, Until, Solid, Among, Notation, Decimal, Hexadecimal, Float, Shape, Characters, Number, Directive, Exactly, Field, AtEnd, Cuts}
+use Rattle.scan_fmt.specs.Directives.{is_blank, after_blanks, first, Run, Until, Solid, Among, Notation, Decimal, Hexadecimal, Float, Shape, Characters, Number, Directive, Exactly, Field, Expression, AtEnd, Cuts}
 
 -- one sign or none, then digits
 abbrev pub IsSigned : List ℕ → Type 0
@@ -78,16 +80,28 @@ abbrev pub stored_token : Bool → Token → Option Token
 stored_token true token = Some token
 stored_token false token = None
 
--- the directive passes a front of the input and leaves the rest: a character that character, a field the longest front of its shape, of which the token is stored unless there is a star
+-- the token of an expression over the input: where nothing matched an empty one at the place, else the text at the token's span
+abbrev pub matched_token : List ℕ → Option Match → Token
+matched_token input None = record { text = []; behind = input }
+matched_token input (Some m) = record { text = chars (slice_range (encode_utf8_all input) (token_span m).0 (token_span m).1); behind = chars (drop (token_span m).1 (encode_utf8_all input)) }
+
+-- what an expression leaves of the input: where nothing matched all of it, else what stands behind the match
+abbrev pub after_match : List ℕ → Option Match → List ℕ
+after_match input None = input
+after_match input (Some m) = chars (drop m.trace.end (encode_utf8_all input))
+
+-- the directive passes a front of the input and leaves the rest: a character that character, a field the longest front of its shape, an expression what its pattern finds, and the token of a field or an expression is stored unless there is a star
 abbrev pub Passes : Directive → List ℕ → Option Token → List ℕ → Type 0
 Passes (Exactly c) input token rest = (input ≡ c ∷ rest) × (token ≡ None)
 Passes (Field stored shape) input token rest = (taken : List ℕ) × IsLongest (MayTake shape) input taken rest × (token ≡ stored_token stored (record { text = token_text shape taken; behind = rest }))
+Passes (Expression stored pattern) input token rest = (token ≡ stored_token stored (matched_token input (found_in input pattern))) × (rest ≡ after_match input (found_in input pattern))
 Passes AtEnd input token rest = ⊥
 
 -- the input that is left doesn't fit: another character stands in front, or it had to be at its end
 abbrev pub Refuses : Directive → List ℕ → Type 0
 Refuses (Exactly c) input = first input ≢ Some c
 Refuses (Field stored shape) input = ⊥
+Refuses (Expression stored pattern) input = ⊥
 Refuses AtEnd input = ⊤
 
 -- what a scan comes to: the tokens, or what was left of the input where it didn't fit

@@ -1,16 +1,20 @@
 // The directives of a format: literal characters, fields, and the end of the input.
-ghost use Rattle.std.specs.Prelude.{◌≡◌, ◌≢◌, ◌<◌, ◌∷◌, ◌++◌, ℕ, List, Option, Bool, true, false, Some, IfNone, IfSome, codes};
+ghost use Rattle.std.specs.Prelude.{◌≡◌, ◌≢◌, ◌<◌, ◌∷◌, ◌++◌, ℕ, List, Option, Bool, true, false, IfOk, IfNone, IfSome, codes};
 ghost use Rattle.std.specs.Str.{byte, chars};
 ghost use Rattle.std.specs.Str.Parse.{AllDigits};
 ghost use Rattle.scan_fmt.specs.Directives.{after_blanks, limit_of, Spells, NoDirective};
-ghost use Rattle.scan_fmt.specs.Directives.{Shape as ShapeView, Characters, Among};
+ghost use Rattle.scan_fmt.specs.Directives.{Characters, Among};
+ghost use Rattle.scan_fmt.specs.Expressions.{IsDelimited};
 ghost use Rattle.scan_fmt.specs.Scanned.{IsLongest};
-ghost use Rattle.scan_fmt.specs.Inner.Fields.{Names, SpellsBody, SpellsField, field_of};
+ghost use Rattle.scan_fmt.specs.Inner.Fields.{Content, Shaped, Names, SpellsBody, SpellsField, IsReadable, field_of};
 ghost use Rattle.scan_fmt.specs.Inner.Parts.{body_of, directive_of};
 ghost use Rattle.scan_fmt.specs.Sets.{IsListing};
 
+use crate::expression::Expression;
 use crate::number::digits_len;
 use crate::text::{before, first, skip_blanks, split_first, strip};
+use numerals::NoMemory;
+use std::alloc::Global;
 
 /// The characters that a run may have.
 #[derive(Clone, Copy)]
@@ -46,26 +50,42 @@ pub enum Shape<'f> {
 #[derive(Clone, Copy)]
 enum Body<'f> {
     Takes(Shape<'f>),
+    /// The pattern of an expression.
+    Finds(&'f str),
     /// The letter of the end.
     Ends,
 }
 
-#[derive(Clone, Copy)]
+#[derive(Drop)]
 pub enum Directive<'f> {
     /// A character that the input must have.
     Literal(char),
-    Field { stored: bool, shape: Shape<'f> },
+    Field {
+        stored: bool,
+        shape: Shape<'f>,
+    },
+    Expression {
+        stored: bool,
+        expression: Expression<'f>,
+    },
     /// The input must be at its end.
     End,
 }
 
 impl<'f> Body<'f> {
-    fn directive(self, stored: bool) -> Directive<'f>
-        ensures { directive_of result ≡ field_of stored (body_of self.entry) }
+    /// The directive, where `regex` reads its pattern.
+    fn directive(self, alloc: Global, stored: bool) -> Result<Option<Directive<'f>>, NoMemory>
+        ensures none { IfOk result (λ o. IfNone o (IsReadable (body_of self.entry) → ⊥)) }
+        ensures read { IfOk result (λ o. IfSome o (λ d. IsReadable (body_of self.entry))) }
+        ensures directive { IfOk result (λ o. IfSome o (λ d. directive_of d ≡ field_of stored (body_of self.entry))) }
     {
         match self {
-            Body::Takes(shape) => Directive::Field { stored, shape },
-            Body::Ends => Directive::End,
+            Body::Takes(shape) => Ok(Some(Directive::Field { stored, shape })),
+            Body::Finds(pattern) => match Expression::new(alloc, pattern)? {
+                Some(expression) => Ok(Some(Directive::Expression { stored, expression })),
+                None => Ok(None),
+            },
+            Body::Ends => Ok(Some(Directive::End)),
         }
     }
 }
@@ -117,7 +137,7 @@ fn closed_listing(text: &str) -> Option<(&str, &str)>
 
 /// The set that stands after an opening bracket, and what follows its closing brace.
 fn set(text: &str) -> Option<(Body<'_>, &str)>
-    ensures none { IfNone result ((s : Option ShapeView) (n : Option ℕ) (rest : List ℕ) → Names s n (byte "[" ∷ chars text.now) rest → ⊥) }
+    ensures none { IfNone result ((s : Content) (n : Option ℕ) (rest : List ℕ) → Names s n (byte "[" ∷ chars text.now) rest → ⊥) }
     ensures some { IfSome result (λ p. (n : Option ℕ) → Names (body_of p.0) n (byte "[" ∷ chars text.now) (chars p.1.now)) }
 {
     match strip(text, '^') {
@@ -135,15 +155,43 @@ fn set(text: &str) -> Option<(Body<'_>, &str)>
 }
 
 fn among(inverted: bool, listing: &str) -> Body<'_>
-    ensures { body_of result ≡ Some (Characters (Among inverted (chars listing.now))) }
+    ensures { body_of result ≡ Shaped (Characters (Among inverted (chars listing.now))) }
 {
     Body::Takes(Shape::Characters(Run::Among { inverted, listing }))
 }
 
+/// The pattern of an expression, and what follows the slash that ends it.
+fn pattern(text: &str) -> Option<(&str, &str)>
+    ensures none { IfNone result ((pattern rest : List ℕ) → chars text.now ≡ pattern ++ byte "/" ∷ rest → IsDelimited pattern → ⊥) }
+    ensures some { IfSome result (λ p. (chars text.now ≡ chars p.0.now ++ byte "/" ∷ chars p.1.now) × IsDelimited (chars p.0.now)) }
+{
+    let (_, mut rest) = split_first(text)?;
+    let mut escaped = false;
+    'pattern: while let Some((c, more)) = split_first(rest) {
+        if c == '/' && !escaped {
+            return Some((before(text, rest), more));
+        }
+        escaped = c == '\\';
+        rest = more;
+    }
+    None
+}
+
+/// The expression that stands after a slash, and what follows its closing brace.
+fn expression(text: &str) -> Option<(Body<'_>, &str)>
+    ensures none { IfNone result ((s : Content) (n : Option ℕ) (rest : List ℕ) → Names s n (byte "/" ∷ chars text.now) rest → ⊥) }
+    ensures some { IfSome result (λ p. (n : Option ℕ) → Names (body_of p.0) n (byte "/" ∷ chars text.now) (chars p.1.now)) }
+{
+    let (pattern, rest) = pattern(text)?;
+    let rest = strip(rest, '}')?;
+    Some((Body::Finds(pattern), rest))
+}
+
 /// What a letter names.
 fn lettered(letter: char, limit: Option<usize>) -> Option<Body<'static>>
-    requires { letter ≢ byte "[" }
-    ensures none { IfNone result ((s : Option ShapeView) (n : Option ℕ) (more rest : List ℕ) → Names s n (letter ∷ more) rest → ⊥) }
+    requires no_set { letter ≢ byte "[" }
+    requires no_expression { letter ≢ byte "/" }
+    ensures none { IfNone result ((s : Content) (n : Option ℕ) (more rest : List ℕ) → Names s n (letter ∷ more) rest → ⊥) }
     ensures some { IfSome result (λ s. (rest : List ℕ) → Names (body_of s) limit (letter ∷ byte "}" ∷ rest) rest) }
 {
     let notation = match letter {
@@ -157,14 +205,17 @@ fn lettered(letter: char, limit: Option<usize>) -> Option<Body<'static>>
     Some(Body::Takes(Shape::Number { notation, limit }))
 }
 
-/// What the letter or the set in front names, and what follows its closing brace.
+/// What the letter, the set or the expression in front names, and what follows its closing brace.
 fn named_body(limit: Option<usize>, text: &str) -> Option<(Body<'_>, &str)>
-    ensures none { IfNone result ((s : Option ShapeView) (rest : List ℕ) → Names s limit (chars text.now) rest → ⊥) }
+    ensures none { IfNone result ((s : Content) (rest : List ℕ) → Names s limit (chars text.now) rest → ⊥) }
     ensures some { IfSome result (λ p. Names (body_of p.0) limit (chars text.now) (chars p.1.now)) }
 {
     let (letter, rest) = split_first(text)?;
     if letter == '[' {
         return set(rest);
+    }
+    if letter == '/' {
+        return expression(rest);
     }
     let body = lettered(letter, limit)?;
     let rest = strip(rest, '}')?;
@@ -173,7 +224,7 @@ fn named_body(limit: Option<usize>, text: &str) -> Option<(Body<'_>, &str)>
 
 /// What stands after a field's star, and what follows its closing brace.
 fn field_body(text: &str) -> Option<(Body<'_>, &str)>
-    ensures none { IfNone result ((s : Option ShapeView) (rest : List ℕ) → SpellsBody s (chars text.now) rest → ⊥) }
+    ensures none { IfNone result ((s : Content) (rest : List ℕ) → SpellsBody s (chars text.now) rest → ⊥) }
     ensures some { IfSome result (λ p. SpellsBody (body_of p.0) (chars text.now) (chars p.1.now)) }
 {
     if let Some(rest) = strip(text, '}') {
@@ -186,47 +237,67 @@ fn field_body(text: &str) -> Option<(Body<'_>, &str)>
     named_body(limit, name)
 }
 
-/// The field that stands after an opening brace, and what follows it.
-fn field(text: &str) -> Option<(Directive<'_>, &str)>
-    ensures none { IfNone result ((stored : Bool) (s : Option ShapeView) (rest : List ℕ) → SpellsField stored s (chars text.now) rest → ⊥) }
-    ensures some { IfSome result (λ p. Spells (directive_of p.0) (byte "{" ∷ chars text.now) (chars p.1.now)) }
+/// Whether the field after an opening brace is stored, what it is, and what follows it.
+fn field_parts(text: &str) -> Option<(bool, Body<'_>, &str)>
+    ensures none { IfNone result ((stored : Bool) (s : Content) (rest : List ℕ) → SpellsField stored s (chars text.now) rest → ⊥) }
+    ensures some { IfSome result (λ p. SpellsField p.0 (body_of p.1) (chars text.now) (chars p.2.now)) }
 {
     match strip(text, '*') {
         Some(text) => {
             let (body, rest) = field_body(text)?;
-            let stored = false;
-            Some((body.directive(stored), rest))
+            Some((false, body, rest))
         }
         None => {
             let (body, rest) = field_body(text)?;
-            let stored = true;
-            Some((body.directive(stored), rest))
+            Some((true, body, rest))
         }
     }
 }
 
-fn front_directive(format: &str) -> Option<(Directive<'_>, &str)>
-    ensures none { IfNone result (NoDirective (chars format.now)) }
-    ensures some { IfSome result (λ p. Spells (directive_of p.0) (chars format.now) (chars p.1.now)) }
+/// The field that stands after an opening brace, and what follows it.
+fn field(alloc: Global, text: &str) -> Result<Option<(Directive<'_>, &str)>, NoMemory>
+    ensures none { IfOk result (λ o. IfNone o ((stored : Bool) (s : Content) (rest : List ℕ) → SpellsField stored s (chars text.now) rest → IsReadable s → ⊥)) }
+    ensures some { IfOk result (λ o. IfSome o (λ p. Spells (directive_of p.0) (byte "{" ∷ chars text.now) (chars p.1.now))) }
 {
-    let (c, rest) = split_first(format)?;
+    let Some((stored, body, rest)) = field_parts(text) else {
+        return Ok(None);
+    };
+    match body.directive(alloc, stored)? {
+        Some(directive) => Ok(Some((directive, rest))),
+        None => Ok(None),
+    }
+}
+
+/// The directive that stands in front, and what follows it.
+fn front_directive(alloc: Global, format: &str) -> Result<Option<(Directive<'_>, &str)>, NoMemory>
+    ensures none { IfOk result (λ o. IfNone o (NoDirective (chars format.now))) }
+    ensures some { IfOk result (λ o. IfSome o (λ p. Spells (directive_of p.0) (chars format.now) (chars p.1.now))) }
+{
+    let Some((c, rest)) = split_first(format) else {
+        return Ok(None);
+    };
     if c == '}' {
-        let (c, rest) = split_first(rest)?;
-        return Some((Directive::Literal(c), rest));
+        return match split_first(rest) {
+            Some((c, rest)) => Ok(Some((Directive::Literal(c), rest))),
+            None => Ok(None),
+        };
     }
     if c != '{' {
-        return Some((Directive::Literal(c), rest));
+        return Ok(Some((Directive::Literal(c), rest)));
     }
-    if let Some(rest) = strip(rest, '{') {
-        return Some((Directive::Literal('{'), rest));
+    match strip(rest, '{') {
+        Some(rest) => Ok(Some((Directive::Literal('{'), rest))),
+        None => field(alloc, rest),
     }
-    field(rest)
 }
 
 /// The directive that stands in front, after white space, and what follows it.
-pub fn next_directive(format: &str) -> Option<(Directive<'_>, &str)>
-    ensures none { IfNone result (NoDirective (after_blanks (chars format.now))) }
-    ensures some { IfSome result (λ p. Spells (directive_of p.0) (after_blanks (chars format.now)) (chars p.1.now)) }
+pub fn next_directive(
+    alloc: Global,
+    format: &str,
+) -> Result<Option<(Directive<'_>, &str)>, NoMemory>
+    ensures none { IfOk result (λ o. IfNone o (NoDirective (after_blanks (chars format.now)))) }
+    ensures some { IfOk result (λ o. IfSome o (λ p. Spells (directive_of p.0) (after_blanks (chars format.now)) (chars p.1.now))) }
 {
-    front_directive(skip_blanks(format))
+    front_directive(alloc, skip_blanks(format))
 }

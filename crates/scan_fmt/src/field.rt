@@ -1,16 +1,19 @@
 // What a directive takes from the front of an input.
-ghost use Rattle.std.specs.Prelude.{◌≡◌, ◌∷◌, ℕ, ◌<◌, ◌≤◌, List, Option, length, take, drop, MatchOption, IfNone, IfSome, IsTrue, ◌↔◌};
+ghost use Rattle.std.specs.Prelude.{◌≡◌, ◌∷◌, ℕ, ◌<◌, ◌≤◌, List, Option, length, take, drop, MatchOption, IfNone, IfSome, IfOk, IsTrue, ◌↔◌};
 ghost use Rattle.std.specs.List.{AllByRecursion};
 ghost use Rattle.std.specs.Str.{byte, chars};
 ghost use Rattle.std.specs.Str.Parse.{without_leading_plus};
 ghost use Rattle.scan_fmt.specs.Scanned.{IsLongest, IsNumber, Suits, MayTake, without_0x, token_text};
-ghost use Rattle.scan_fmt.specs.Directives.{Number, Field};
-ghost use Rattle.scan_fmt.specs.Inner.Parts.{run_of, notation_of, shape_of, directive_of, IsPass};
+ghost use Rattle.scan_fmt.specs.Directives.{Number, Exactly, Field, Expression as Finds};
+ghost use Rattle.scan_fmt.specs.Inner.Parts.{run_of, notation_of, shape_of, directive_of, IsPass, LiesIn};
 ghost use Rattle.scan_fmt.specs.Sets.{is_in_ranges, is_listed};
 
 use crate::directive::{Directive, Notation, Run, Shape};
+use crate::expression::{Expression, Found};
 use crate::number::{float_len, prefixed_len, signed_len};
 use crate::text::{before, is_blank, split_first, strip};
+use numerals::NoMemory;
+use std::alloc::Global;
 
 /// The other end of a range, where a dash stands in front, and what follows it.
 fn range_end(text: &str) -> Option<(char, &str)>
@@ -74,8 +77,12 @@ pub enum Pass<'i> {
     Mismatch,
     /// A front is passed; this is the rest.
     Passed(&'i str),
-    /// A front is passed, and a token of it is stored.
-    Taken { token: &'i str, rest: &'i str },
+    /// A front is passed, and a token of it is stored; the rest lies in what stands behind the token.
+    Taken {
+        token: &'i str,
+        behind: &'i str,
+        rest: &'i str,
+    },
 }
 
 impl Run<'_> {
@@ -181,30 +188,71 @@ impl Shape<'_> {
 
     /// A field of this shape over the input.
     fn pass<'i>(&self, stored: bool, input: &'i str) -> Pass<'i>
-        ensures { IsPass (Field stored (shape_of self.now)) (chars input.now) result }
+        ensures passes { IsPass (Field stored (shape_of self.now)) (chars input.now) result }
+        ensures lies { LiesIn input.now result }
     {
         let (taken, rest) = self.split(input);
         if stored {
             let token = self.token(taken);
-            Pass::Taken { token, rest }
+            let behind = rest;
+            Pass::Taken {
+                token,
+                behind,
+                rest,
+            }
         } else {
             Pass::Passed(rest)
         }
     }
 }
 
+impl Expression<'_> {
+    /// A field of this expression over the input.
+    fn pass<'i>(&self, alloc: Global, stored: bool, input: &'i str) -> Result<Pass<'i>, NoMemory>
+        ensures passes { IfOk result (IsPass (Finds stored self.now) (chars input.now)) }
+        ensures lies { IfOk result (LiesIn input.now) }
+    {
+        let Found {
+            token,
+            behind,
+            rest,
+        } = self.find(alloc, input)?;
+        if stored {
+            Ok(Pass::Taken {
+                token,
+                behind,
+                rest,
+            })
+        } else {
+            Ok(Pass::Passed(rest))
+        }
+    }
+}
+
+/// What a character that the input must have does to it.
+fn literal(c: char, input: &str) -> Pass<'_>
+    ensures passes { IsPass (Exactly c) (chars input.now) result }
+    ensures lies { LiesIn input.now result }
+{
+    match strip(input, c) {
+        Some(rest) => Pass::Passed(rest),
+        None => Pass::Mismatch,
+    }
+}
+
 impl Directive<'_> {
     /// What the directive does to the input, whose white space in front is passed.
-    pub fn pass<'i>(&self, input: &'i str) -> Pass<'i>
-        ensures { IsPass (directive_of self.now) (chars input.now) result }
+    pub fn pass<'i>(&self, alloc: Global, input: &'i str) -> Result<Pass<'i>, NoMemory>
+        ensures passes { IfOk result (IsPass (directive_of self.now) (chars input.now)) }
+        ensures lies { IfOk result (LiesIn input.now) }
     {
         match self {
-            Directive::Literal(c) => match strip(input, *c) {
-                Some(rest) => Pass::Passed(rest),
-                None => Pass::Mismatch,
-            },
-            Directive::Field { stored, shape } => shape.pass(*stored, input),
-            Directive::End => Pass::Mismatch,
+            Directive::Literal(c) => Ok(literal(*c, input)),
+            Directive::Field { stored, shape } => Ok(shape.pass(*stored, input)),
+            Directive::Expression { stored, expression } => {
+                expression.pass(alloc, *stored, input)
+            }
+            Directive::End => Ok(Pass::Mismatch),
         }
     }
 }

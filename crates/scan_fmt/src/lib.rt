@@ -2,6 +2,7 @@
 #![tactic(auto)]
 
 mod directive;
+mod expression;
 mod field;
 mod number;
 pub mod parse;

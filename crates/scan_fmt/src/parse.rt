@@ -115,13 +115,14 @@ impl<'f> Model for Format<'f> {
 }
 
 impl<'f> Format<'f> {
-    /// Cuts the format into its directives, up to its end or to the first field that is malformed.
+    /// Cuts the format into its directives, up to its end or to the first field that is malformed or whose pattern `regex`
+    /// doesn't read. Each pattern is built here, and one past the limit of `regex` on size counts as want of memory.
     pub fn new(alloc: Global, format: &'f str) -> Result<Format<'f>, NoMemory>
         ensures { IfOk result (λ f. f ≡ chars format.now) }
     {
         let mut directives = Vec::new(alloc);
         let mut rest = format;
-        'cut: while let Some((directive, more)) = next_directive(rest) {
+        'cut: while let Some((directive, more)) = next_directive(alloc, rest)? {
             if directives.push(directive).is_err() {
                 return Err(NoMemory);
             }

@@ -98,11 +98,15 @@ fn take_pieces(
         if here.is_empty() {
             return Ok(pieces);
         }
-        match directive.pass(here) {
+        match directive.pass(alloc, here)? {
             Pass::Mismatch => return mismatch(alloc, input, here),
             Pass::Passed(left) => rest = left,
-            Pass::Taken { token, rest: left } => {
-                let piece = piece_of(input, token, left);
+            Pass::Taken {
+                token,
+                behind,
+                rest: left,
+            } => {
+                let piece = piece_of(input, token, behind);
                 push_piece(&mut pieces, piece)?;
                 rest = left;
             }

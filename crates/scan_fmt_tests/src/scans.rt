@@ -80,7 +80,70 @@ const SCANS: &str = "\
     {s}{5 d}{s}\tone 22 three\tone;\n\
     {s}{D}{s}\tone 22 three\tone;\n\
     {4x}-{\tff-b\tff;\n\
-    {d}{3/a/}{s}\t7abc\t7;\n\
+    {d}{3/a/}{s}\t7abc\t7;a;bc;\n\
+";
+
+// The same of expressions: tokens, groups and stars; how a pattern ends; what isn't read; and patterns on which others blow up.
+const EXPRESSIONS: &str = "\
+    one ({/[^)]+\\)?/}) two\tone ((hello)) two\t(hello);\n\
+    {/jj(a*)jj/}\tjjaaajj\taaa;\n\
+    {/[a-c]+/}{d}\tabc12\tabc;12;\n\
+    {/a(b)?c/}{s}\tac d\tac;d;\n\
+    {/a(b)?c/}{s}\tabc d\tb;d;\n\
+    {/(a)|(b)/}{s}\tbc\tb;c;\n\
+    {/(?:ab)+/}{s}\tababc\tabab;c;\n\
+    {/a(b)*/}{s}\tabbc\tb;c;\n\
+    {/a(?<last>b)/}{s}\tabc\tb;c;\n\
+    {/()a/}{s}\tab\t;b;\n\
+    {*/a+/}{s}\taab\tb;\n\
+    {*2/a+/}{s}\taab\tb;\n\
+    {2/a+/}{s}\taaab\taaa;b;\n\
+    {99999999999999999999/a/}{s}\tab\ta;b;\n\
+    {/z/}{s}\tabc\t;abc;\n\
+    {*/z/}{s}\tabc\tabc;\n\
+    {d}{/z*/}{s}\t7 abc\t7;;abc;\n\
+    {/b/}{s}\tabc\t;abc;\n\
+    {/a|b/}{s}\tba\tb;a;\n\
+    {/b|ab/}{s}\tabc\tab;c;\n\
+    {/^a/}{s}\tab\ta;b;\n\
+    {d}{/^a/}{s}\t7ab\t7;a;b;\n\
+    {/a$/}{s}\tab\t;ab;\n\
+    {/a$/}{s}\ta\ta;\n\
+    {d}{/\\ba/}{s}\t7ab\t7;a;b;\n\
+    {/a)|(?:b/}{s}\txxbc\tb;c;\n\
+    {/é(.)/}{s}\téλb\tλ;b;\n\
+    é{/\\w+/}|{d}\té中é|7\t中é;7;\n\
+    {/a b/}{s}\ta b c\ta b;c;\n\
+    {/ a/}{s}\t a\t;a;\n\
+    {/a}b/}{s}\ta}bc\ta}b;c;\n\
+    {/a\\/b/}{s}\ta/bc\ta/b;c;\n\
+    {/[\\/]/}{s}\t/a\t/;a;\n\
+    {//a/}{s}\t/ab\t/a;b;\n\
+    {///}{s}\t/ab\t/;ab;\n\
+    {/\\/}{s}\tab\t\n\
+    {/\\//}{s}\t/ab\t\n\
+    {/\\d/}{s}\t1ab\t1;ab;\n\
+    {//}\tab\t\n\
+    {//}}/}{s}\t/}}a\t/}};a;\n\
+    {/a\ta\t\n\
+    {/a/\ta\t\n\
+    {/a/x}\ta\t\n\
+    {/a/ }\ta\t\n\
+    {/a\\/}\ta\t\n\
+    {d}{/\t7a\t7;\n\
+    {d}{/(/}{s}\t7ab c\t7;\n\
+    {d}{/[/}{s}\t7ab c\t7;\n\
+    {d}{/*/}{s}\t7ab c\t7;\n\
+    {d}{/a)/}{s}\t7ab c\t7;\n\
+    {d}{/\\1/}{s}\t7ab c\t7;\n\
+    {d}{/(?=a)/}{s}\t7ab c\t7;\n\
+    {d}{/a{2,1}/}{s}\t7ab c\t7;\n\
+    x{d}{/(/}{s}\ty7ab\t;\n\
+    {d}{/(/}{e}\t7\t7;\n\
+    {/(a+)+$/}{s}\taaaaaaaaaaaaaaaaaaaaaaaaaaaaaaaaaaaaaaaaaaaaaaab\t;aaaaaaaaaaaaaaaaaaaaaaaaaaaaaaaaaaaaaaaaaaaaaaab;\n\
+    {/(a|aa)+$/}{s}\taaaaaaaaaaaaaaaaaaaaaaaaaaaaaaaaaaaaaaaaaaaaaaab\t;aaaaaaaaaaaaaaaaaaaaaaaaaaaaaaaaaaaaaaaaaaaaaaab;\n\
+    {/(a*)*b/}{s}\taaaaaaaaaaaaaaaaaaaaaaaaaaaaaaaaaaaaaaaaaaaaaaac\t;aaaaaaaaaaaaaaaaaaaaaaaaaaaaaaaaaaaaaaaaaaaaaaac;\n\
+    {/a?a?a?a?a?a?a?a?a?a?a?a?a?a?a?a?aaaaaaaaaaaaaaaa/}{s}\taaaaaaaaaaaaaaaab\taaaaaaaaaaaaaaaa;b;\n\
 ";
 
 /// The tokens, each with a semicolon after it.
@@ -110,6 +173,49 @@ fn formats_take_tokens(rt: HostRuntime) -> Result<(), Fail> {
     one_answer();
     some_answer();
     follow(&rt, rt.alloc(), SCANS)
+}
+
+#[test]
+fn expressions_take_tokens(rt: HostRuntime) -> Result<(), Fail> {
+    follow(&rt, rt.alloc(), EXPRESSIONS)
+}
+
+/// A format of one expression in so many groups, and then a run.
+fn nested(alloc: Global, groups: usize) -> Result<String, Fail> {
+    let mut format = String::from_str(alloc, "{d}{/")?;
+    for i in 0..groups {
+        let _ = i;
+        format.push('(')?;
+    }
+    format.push('a')?;
+    for i in 0..groups {
+        let _ = i;
+        format.push(')')?;
+    }
+    format.push_str("/}{s}")?;
+    Ok(format)
+}
+
+#[test]
+fn an_expression_that_nests_too_deep_ends_the_scan(rt: HostRuntime) -> Result<(), Fail> {
+    let alloc = rt.alloc();
+    for (groups, tokens) in [(200, "7;a;b;"), (300, "7;")] {
+        let format = nested(alloc, groups)?;
+        let found = scan(alloc, "7ab", format.as_str()).ok().ok_or("no memory")?;
+        let found = joined(alloc, found).ok().ok_or("no memory")?;
+        assert_eq!(rt; found.as_str(), tokens, "{groups} groups");
+    }
+    Ok(())
+}
+
+#[test]
+fn an_expression_past_the_limit_wants_memory(rt: HostRuntime) -> Result<(), Fail> {
+    let alloc = rt.alloc();
+    for format in ["{/((a{1000}){1000}){1000}/}", "{/(?:\\w{1000}){1000}/}"] {
+        let refused = scan(alloc, "a", format).is_err();
+        assert_eq!(rt; refused, true, "{format}");
+    }
+    Ok(())
 }
 
 #[test]

@@ -16,6 +16,9 @@ const PIECES: &str = "\
     é{}b{[a]}{s}\t éabab\t3-4 5-6 6-7 \n\
     {d}{d}{s}\tx\t0-0 0-0 0-1 \n\
     ab{d}\ta c\t2-2 \n\
+    {d}{/é(b+)c/}{s}\t7 ébbcd\t0-1 4-6 7-8 \n\
+    {d}{/x/}{/(y)?z/}\t7 zy\t0-1 2-2 2-3 \n\
+    {d}{*/(b)c/}{/d/}{/$/}{s}\t7bcd \t0-1 3-4 \n\
 ";
 
 /// The pieces, each with a blank after it.

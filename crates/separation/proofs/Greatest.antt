@@ -13,7 +13,7 @@ use Rattle.row_format.specs.Plannable.{IsPaired, is_number, greatest_length}
 use Rattle.row_format.specs.Laws.{TableIsRight}
 use Rattle.separation.specs.Inner.Table.{is_signed_decimal}
 use Rattle.separation.proofs.Sorts.{IsDigits, converts_digits, width_of_kind, number_form, number_field, room_of, prefix, bit_texts, decimal_texts, decimal_is}
-use Rattle.separation.proofs.Lengths.{bits_most, bits_long, decimal_most, decimal_greatest, digits_decimal, signed_long}
+use Rattle.separation.proofs.Lengths.{bits_most, bits_long, decimal_most, decimal_least}
 
 -- the length of a number's text
 form_length : (left zero_pad : Bool) (room : ℕ) (lead digits : List ℕ) → length (number_form left zero_pad room lead digits) ≡ length lead + length digits + room
@@ -49,16 +49,13 @@ bits_right f kind number digits other =
 decimal_right : (f : ConversionSpecifier) (kind : Kind) → is_number kind ≡ true → IsDigits f.conversion_type → is_signed_decimal f.conversion_type kind ≡ true → Right f kind
 decimal_right f kind number digits decimal =
     let texts = decimal_texts (bare f) kind number digits (λ e. cc) decimal in
-    let long = signed_long kind in
-    let least = negsuc (2 ^ hbits (width_of_kind kind) - 1) in
-    let one = texts.some least (record { sfits = omega (arith, long.0) }) in
-    let same : length (digits_of f.conversion_type (unsigned_abs least)) + 1 ≡ greatest_length f kind =
-        ap (λ (t : List ℕ). length t + 1) (digits_decimal f.conversion_type (unsigned_abs least) (decimal_is f.conversion_type kind decimal).0) ∙ long.3 ∙ sym (decimal_greatest f kind decimal) in
+    let least = decimal_least f kind decimal in
+    let one = texts.some least.z least.fits in
     (
       (λ x is. let it = texts.each x is in
         let same = ap length it.2 in
         omega (arith, same, bare_length f (sign_of f it.0) (unsigned_abs it.0), decimal_most f kind it.0 decimal it.1)),
-      (one.0, one.1, ap length one.2 ∙ bare_length f (sign_of f least) (unsigned_abs least) ∙ omega (arith, same))
+      (one.0, one.1, ap length one.2 ∙ bare_length f (sign_of f least.z) (unsigned_abs least.z) ∙ least.full)
     )
 
 pub table_is_right : TableIsRight

@@ -144,3 +144,18 @@ pub decimal_room : (f : ConversionSpecifier) (kind : Kind) (n : ℕ) → is_sign
 decimal_room f kind n h small =
     let digits : length (digits_of f.conversion_type n) ≡ length (numeral 10 false n) = ap length (digits_decimal f.conversion_type n (decimal_is f.conversion_type kind h).0) in
     omega (arith, digits, signed_most kind n (omega (arith, small.sfits)), decimal_greatest f kind h)
+
+-- the least number is as long as can be
+pub record Least (f : ConversionSpecifier) (kind : Kind) : Type 0 where
+  pub z : ℤ
+  pub fits : FitsSigned (width_of_kind kind) z
+  pub negative : sign_of f z ≡ 45 ∷ []
+  pub full : length (sign_of f z) + length (digits_of f.conversion_type (unsigned_abs z)) ≡ greatest_length f kind
+
+pub decimal_least : (f : ConversionSpecifier) (kind : Kind) → is_signed_decimal f.conversion_type kind ≡ true → Least f kind
+decimal_least f kind h =
+    let long = signed_long kind in
+    let n = 2 ^ hbits (width_of_kind kind) - 1 in
+    let same : length (digits_of f.conversion_type (suc n)) + 1 ≡ greatest_length f kind =
+        ap (λ (t : List ℕ). length t + 1) (digits_decimal f.conversion_type (suc n) (decimal_is f.conversion_type kind h).0) ∙ long.3 ∙ sym (decimal_greatest f kind h) in
+    record { z = negsuc n; fits = record { sfits = omega (arith, long.0) }; negative = refl; full = omega (arith, same) }

@@ -3,6 +3,7 @@
 
 mod conditions;
 pub mod laws;
+mod front;
 mod pairs;
 mod table;
 mod touching;

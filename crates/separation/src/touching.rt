@@ -1,5 +1,5 @@
 // Whether a field runs on.
-ghost use Rattle.std.specs.Prelude.{◌↔◌, IsTrue};
+ghost use Rattle.std.specs.Prelude.{◌≡◌, ◌++◌, ◌↔◌, ℕ, List, [], IsTrue, IfSome, IsNone, encode_utf8};
 ghost use Rattle.row_format.specs.Plannable.{RunsOn, Never, IsPaired, IsUnpaired, IsLossy};
 ghost use Rattle.separation.specs.Inner.Touching.{TakesSome, IsWhole, Touches, IsFollowed};
 
@@ -17,6 +17,13 @@ fn may_touch(column: &RowField, kind: Kind) -> bool
     may_fill(field, kind) || !field.left_adj
 }
 
+fn first_character(text: &str) -> Option<char>
+    ensures some { IfSome result (λ c. (rest : List ℕ) × (text.now ≡ encode_utf8 c ++ rest)) }
+    ensures none { IsNone result → text.now ≡ [] }
+{
+    text.chars().next()
+}
+
 /// Whether over some values that fit, what comes behind the column's field begins with a character that the field takes.
 fn is_followed(column: &RowField, later: &[RowField], kinds: &[Kind]) -> bool
     requires takes { TakesSome column.now.field.conversion_type }
@@ -25,7 +32,7 @@ fn is_followed(column: &RowField, later: &[RowField], kinds: &[Kind]) -> bool
     ensures { IsTrue result ↔ IsFollowed column.now later.now kinds.now }
 {
     let conversion = column.field().conversion_type;
-    if let Some(character) = column.after().chars().next() {
+    if let Some(character) = first_character(column.after()) {
         return is_taken(conversion, character);
     }
     match (later, kinds) {

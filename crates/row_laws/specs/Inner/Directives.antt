@@ -1,9 +1,9 @@
 -- The directives of a planned text, and what one planned field takes.
-use Rattle.std.specs.Prelude.{◌≡◌, ◌⊎◌, ℕ, ◌-◌, Bool, true, false, if◌then◌else◌, List, [], ◌∷◌, ◌++◌, map, codes, Option, Some, None}
+use Rattle.std.specs.Prelude.{◌≡◌, ◌⊎◌, ℕ, ◌-◌, Bool, true, false, if◌then◌else◌, List, [], ◌∷◌, ◌++◌, codes, Option, Some, None}
 use Rattle.std.specs.List.{AllByRecursion}
 use Rattle.std.specs.Str.{chars, IsUtf8}
 use Rattle.sprintf.specs.declared.parser.ConversionType.{ConversionType}
-use Rattle.sprintf.specs.declared.parser.ConversionType.TheVariants.{DecInt, OctInt, HexIntLower, HexIntUpper, Char, String}
+use Rattle.sprintf.specs.declared.parser.ConversionType.TheVariants.{DecInt, OctInt, HexIntLower, HexIntUpper}
 use Rattle.scan_fmt.specs.Directives.{is_blank, Directive, Exactly, Field, Shape, Characters, Number, Decimal, Hexadecimal, Until, Solid}
 use Rattle.scan_fmt.specs.Scanned.{IsLongest, MayTake, token_text}
 use Rattle.values.specs.declared.kind.Kind.{Kind}

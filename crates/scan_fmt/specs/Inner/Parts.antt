@@ -1,5 +1,5 @@
 -- What the program's own types for the parts of a format stand for, and what one directive does to an input.
-use Rattle.std.specs.Prelude.{ℕ, List, Option, None, Some}
+use Rattle.std.specs.Prelude.{◌≡◌, ℕ, List, ◌++◌, None, Some, ⊤}
 use Rattle.std.specs.Str.{chars}
 use Rattle.scan_fmt.specs.declared.directive.Run.{Run as RunPart}
 use Rattle.scan_fmt.specs.declared.directive.Run.TheVariants.{Until as UntilPart, Solid as SolidPart, Among as AmongPart}
@@ -8,15 +8,17 @@ use Rattle.scan_fmt.specs.declared.directive.Notation.TheVariants.{Decimal as De
 use Rattle.scan_fmt.specs.declared.directive.Shape.{Shape as ShapePart}
 use Rattle.scan_fmt.specs.declared.directive.Shape.TheVariants.{Characters as CharactersPart, Number as NumberPart}
 use Rattle.scan_fmt.specs.declared.directive.Body.{Body}
-use Rattle.scan_fmt.specs.declared.directive.Body.TheVariants.{Takes, Ends}
+use Rattle.scan_fmt.specs.declared.directive.Body.TheVariants.{Takes as TakesPart, Finds as FindsPart, Ends as EndsPart}
 use Rattle.scan_fmt.specs.declared.directive.Directive.{Directive as DirectivePart}
-use Rattle.scan_fmt.specs.declared.directive.Directive.TheVariants.{Literal, Field as FieldPart, End}
+use Rattle.scan_fmt.specs.declared.directive.Directive.TheVariants.{Literal, Field as FieldPart, Expression as ExpressionPart, End}
 use Rattle.scan_fmt.specs.declared.field.Pass.{Pass}
 use Rattle.scan_fmt.specs.declared.field.Pass.TheVariants.{Mismatch, Passed, Taken}
-use Rattle.scan_fmt.specs.Directives.{Run, Until, Solid, Among, Notation, Decimal, Hexadecimal, Float, Shape, Characters, Number, Directive, Exactly, Field, AtEnd}
+use Rattle.scan_fmt.specs.Directives.{Run, Until, Solid, Among, Notation, Decimal, Hexadecimal, Float, Shape, Characters, Number, Directive, Exactly, Field, Expression, AtEnd}
 use Rattle.scan_fmt.specs.declared.slices.Piece.{Piece}
 use Rattle.scan_fmt.specs.Slices.{ArePieces, AreInOrder}
-use Rattle.scan_fmt.specs.Scanned.{Outcome, Passes, Refuses, Takes as TakesFrom, tokens_of}
+use Rattle.scan_fmt.specs.Scanned.{Outcome, Passes, Refuses, Takes, tokens_of}
+use Rattle.scan_fmt.specs.Inner.Found.{AreParts}
+use Rattle.scan_fmt.specs.Inner.Fields.{Content, Shaped, Finds, Ends}
 
 abbrev pub run_of : RunPart → Run
 run_of (UntilPart stop) = Until stop
@@ -32,24 +34,32 @@ abbrev pub shape_of : ShapePart → Shape
 shape_of (CharactersPart run) = Characters (run_of run)
 shape_of (NumberPart notation limit) = Number (notation_of notation) limit
 
-abbrev pub body_of : Body → Option Shape
-body_of (Takes shape) = Some (shape_of shape)
-body_of Ends = None
+abbrev pub body_of : Body → Content
+body_of (TakesPart shape) = Shaped (shape_of shape)
+body_of (FindsPart pattern) = Finds (chars pattern.now)
+body_of EndsPart = Ends
 
 abbrev pub directive_of : DirectivePart → Directive
 directive_of (Literal c) = Exactly c
 directive_of (FieldPart stored shape) = Field stored (shape_of shape)
+directive_of (ExpressionPart stored expression) = Expression stored expression
 directive_of End = AtEnd
 
 -- the input doesn't fit, or a front was passed with or without a token
 abbrev pub IsPass : Directive → List ℕ → Pass → Type 0
 IsPass d input Mismatch = Refuses d input
 IsPass d input (Passed rest) = Passes d input None (chars rest.now)
-IsPass d input (Taken token rest) = Passes d input (Some (record { text = chars token.now; behind = chars rest.now })) (chars rest.now)
+IsPass d input (Taken token behind rest) = Passes d input (Some (record { text = chars token.now; behind = chars behind.now })) (chars rest.now)
+
+-- what is left of the input ends it, and a token lies before it
+abbrev pub LiesIn : List ℕ → Pass → Type 0
+LiesIn input Mismatch = ⊤
+LiesIn input (Passed rest) = (front : List ℕ) × (input ≡ front ++ rest.now)
+LiesIn input (Taken token behind rest) = AreParts input token.now behind.now rest.now
 
 -- these are the pieces of the tokens that the directives come to over the input
 pub record TakesPieces (ds : List Directive) (input : List ℕ) (pieces : List Piece) : Type 0 where
   pub out : Outcome
-  pub takes : TakesFrom ds (chars input) out
+  pub takes : Takes ds (chars input) out
   pub are : ArePieces input pieces (tokens_of out)
   pub in_order : AreInOrder 0 pieces

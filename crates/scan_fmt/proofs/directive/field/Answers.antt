@@ -1,24 +1,19 @@
-use Rattle.std.proofs.Common.{true, false, refl}
 use Rattle.std.specs.Str.{chars}
 use Rattle.scan_fmt.specs.Inner.Parts.{body_of}
-use Rattle.scan_fmt.proofs.Options.{if_none}
-use Rattle.scan_fmt.proofs.Spelled.{field_spells, field_none_star, field_none_plain}
+use Rattle.scan_fmt.proofs.Spelled.{field_spells}
+use Rattle.scan_fmt.proofs.Cutting.{none_readable}
 use Rattle.scan_fmt.proofs.directive.field.Goals as goal
 
-pub returns-in_err-body-in-Some-clause-none : goal.returns-in_err-body-in-Some-clause-none
-returns-in_err-body-in-Some-clause-none c =
-    if_none _ _ (field_none_star (chars c.args.text.now) (chars c.in-Some.text.now) c.in-Some.ensures.some c.in_err-body-in-Some.ensures.none)
+pub returns-in_default-clause-none : goal.returns-in_default-clause-none
+returns-in_default-clause-none c = λ stored s rest h readable. c.in_default.ensures.none stored s rest h
 
-pub returns-in_ok-body-in-Some-clause-some : goal.returns-in_ok-body-in-Some-clause-some
-returns-in_ok-body-in-Some-clause-some c =
-    let body = c.in_ok-body-in-Some in
-    rw c.directive.ensures (field_spells false (body_of body.body) (chars c.args.text.now) (chars body.rest.now) (chars c.in-Some.text.now, c.in-Some.ensures.some, body.ensures.some))
+pub returns-in-Some-2-clause-some : goal.returns-in-Some-2-clause-some
+returns-in-Some-2-clause-some c =
+    let readable = rw c.in-Some-2.is at c.in_ok-directive.ensures.read in
+    let is = rw c.in-Some-2.is at c.in_ok-directive.ensures.directive in
+    rw is (field_spells c.in-Some.stored (body_of c.in-Some.body) (chars c.args.text.now) (chars c.in-Some.rest.now) c.in-Some.ensures.some readable)
 
-pub returns-in_err-body-in-None-clause-none : goal.returns-in_err-body-in-None-clause-none
-returns-in_err-body-in-None-clause-none c =
-    if_none _ _ (field_none_plain (chars c.args.text.now) c.in-None.ensures.none c.in_err-body-in-None.ensures.none)
-
-pub returns-in_ok-body-in-None-clause-some : goal.returns-in_ok-body-in-None-clause-some
-returns-in_ok-body-in-None-clause-some c =
-    let body = c.in_ok-body-in-None in
-    rw c.directive-in-None.ensures (field_spells true (body_of body.body) (chars c.args.text.now) (chars body.rest.now) (chars c.args.text.now, refl, body.ensures.some))
+pub returns-in-None-clause-none : goal.returns-in-None-clause-none
+returns-in-None-clause-none c =
+    let unread = rw c.in-None.is at c.in_ok-directive.ensures.none in
+    none_readable c.in-Some.stored (body_of c.in-Some.body) (chars c.args.text.now) (chars c.in-Some.rest.now) c.in-Some.ensures.some unread

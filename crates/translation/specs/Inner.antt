@@ -1,0 +1,3 @@
+-- What only private calls and proofs cite.
+pub mod Options
+pub mod Plans
