@@ -3,6 +3,8 @@
 
 mod characters;
 mod error;
+mod printing;
+mod reading;
 mod rows;
 mod text;
 mod token;

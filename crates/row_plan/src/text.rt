@@ -10,7 +10,7 @@ use sprintf::parser::ConversionType;
 use std::alloc::Global;
 use values::Kind;
 
-fn push(out: &mut String, text: &str) -> Result<(), NoMemory>
+pub fn push(out: &mut String, text: &str) -> Result<(), NoMemory>
     ensures { OnOk result (string_bytes out.new ≡ string_bytes out.old ++ text.now) }
 {
     if out.push_str(text).is_err() {

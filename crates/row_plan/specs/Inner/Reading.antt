@@ -60,3 +60,8 @@ EachFits _ _ _ _ = ⊥
 abbrev pub NoneWider : ℕ → List Column → Type 0
 NoneWider n [] = ⊤
 NoneWider n (c ∷ cs) = (width_of c.field ≤ n) × NoneWider n cs
+
+-- The tokens read to no list of values that fit, or there was no memory.
+abbrev pub ReadsNoList : List Column → List Kind → List (List ℕ) → RowError → Type 0
+ReadsNoList columns kinds tokens NotARow = (values : List Datum) → ¬ EachFits columns kinds tokens values
+ReadsNoList columns kinds tokens NoMemory = ⊤
