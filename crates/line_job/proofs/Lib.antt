@@ -1,3 +1,4 @@
+mod GrownLemmas
 mod LineLemmas
 mod NextLemmas
 mod EndLemmas

@@ -1,6 +1,7 @@
 pub mod Ends
 pub mod Stop
 pub mod Refusal
+pub mod Grown
 pub mod Rules
 pub mod Reached
 pub mod Runs

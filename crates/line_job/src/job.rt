@@ -1,5 +1,7 @@
 // A job that goes line by line.
-ghost use Rattle.std.specs.Prelude.{◌≡◌, ◌++◌, ℕ, List, Bool, true, OnOk, OnErr, string_bytes};
+ghost use Rattle.std.specs.Prelude.{◌≡◌, ◌++◌, ◌∷◌, [], ℕ, List, Bool, true, OnOk, OnErr, IfErr, string_bytes, length};
+ghost use Rattle.whiteread.specs.Lines.{line_feed};
+ghost use Rattle.line_job.specs.Grown.{IsGrown};
 ghost use Rattle.line_job.specs.Rules.{Rules};
 ghost use Rattle.line_job.specs.Refusal.{IfRefused};
 ghost use Rattle.line_job.specs.Laws.{AreClear};
@@ -30,6 +32,23 @@ impl<W: Copy, T: Drop> From<AllocFailed<T>> for Refusal<W> {
 
     fn from(_: AllocFailed<T>) -> Self {
         Refusal::NoMemory
+    }
+}
+
+/// Puts a line feed behind the text that was put to `out` after its first `before` bytes; or takes that text out again, where there is
+/// no memory, so that nothing is owed for the line.
+pub fn end_line<W: Copy>(out: &mut String, before: usize) -> Result<(), Refusal<W>>
+    requires { IsGrown before (string_bytes out.old) }
+    ensures ok { OnOk result (string_bytes out.new ≡ string_bytes out.old ++ line_feed ∷ []) }
+    ensures memory { IfErr result (λ why. why ≡ NoMemory) }
+    ensures as_before { (front more : List ℕ) → string_bytes out.old ≡ front ++ more → before ≡ length front → OnErr result (string_bytes out.new ≡ front) }
+{
+    match out.push_str("\n") {
+        Ok(()) => Ok(()),
+        Err(_) => {
+            out.truncate(before);
+            Err(Refusal::NoMemory)
+        }
     }
 }
 

@@ -11,7 +11,7 @@ mod reading;
 mod stop;
 
 pub use engine::{run_job, run_told};
-pub use job::{LineJob, Refusal};
+pub use job::{LineJob, Refusal, end_line};
 pub use laws::{one_answer, splits};
-pub use message::{Cause, Message, line_message, message_of, text_message};
+pub use message::{Cause, Message, line_message, message_of, numbered_message, text_message};
 pub use stop::{Stop, status_of, tell};

@@ -1,5 +1,5 @@
 // Messages. Nothing here takes memory.
-ghost use Rattle.std.specs.Prelude.{◌≡◌, ◌≤◌, ◌+◌, ◌++◌, ℕ, List, length, codes};
+ghost use Rattle.std.specs.Prelude.{◌≡◌, ◌≤◌, ◌+◌, ◌++◌, ℕ, List, length, codes, decimal};
 ghost use Rattle.arrayvec.specs.ArrayVec.{array_vec_len};
 ghost use Rattle.line_job.specs.Told.{line_message, stop_message};
 
@@ -52,6 +52,24 @@ pub fn line_message(line: u64, what: &[u8]) -> Message
     add(&mut message, digits.format(line).as_bytes());
     add(&mut message, b": ");
     add(&mut message, what);
+    add(&mut message, b"\n");
+    message
+}
+
+/// The message that names a line, and says with a number in it what is wrong with it.
+pub fn numbered_message(line: u64, before: &[u8], number: u64, after: &[u8]) -> Message
+    requires { length before.now + length after.now ≤ 60 }
+    ensures { result.items ≡ line_message line (before.now ++ (decimal number ++ after.now)) }
+{
+    let mut digits = Buffer::new();
+    let mut number_digits = Buffer::new();
+    let mut message = ArrayVec::new();
+    add(&mut message, b"line ");
+    add(&mut message, digits.format(line).as_bytes());
+    add(&mut message, b": ");
+    add(&mut message, before);
+    add(&mut message, number_digits.format(number).as_bytes());
+    add(&mut message, after);
     add(&mut message, b"\n");
     message
 }

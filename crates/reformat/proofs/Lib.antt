@@ -1,14 +1,4 @@
-mod UniqueRow
-mod FirstNumber
-mod ReadsRow
-mod FlatRow
-mod ElementLemmas
-mod Faults
-mod SameForm
-mod RowBridge
 mod RowLemmas
-mod HeaderLemmas
 mod RewriteLemmas
 mod ReformatLemmas
 mod WordTest
-mod MessageLemmas

@@ -7,11 +7,10 @@ use Rattle.line_job.specs.declared.stop.Stop.TheVariants.{Line, NotUtf8, TooLong
 use Rattle.line_job.specs.Ends.{Seen, SourceState, SinkState, CountsReadFault, CountsWriteFault, Took}
 use Rattle.line_job.specs.Runs.{Runs, IsKept}
 use Rattle.line_job.specs.Told.{RunsTold, result_status, status_of}
-use Rattle.reformat.specs.declared.error.LineCause.{LineCause}
-use Rattle.reformat.specs.declared.error.LineCause.TheVariants.{Header, SourceFormat, Template, NotARow, Render, NotBuilt}
+use Rattle.header_lines.specs.declared.cause.LineCause.{LineCause}
 use Rattle.reformat.specs.declared.error.ReformatError.{ReformatError}
 use Rattle.reformat.specs.declared.error.ReformatError.TheVariants.{NoMemory as ErrorNoMemory}
-use Rattle.reformat.specs.Message.{cause_message}
+use Rattle.header_lines.specs.Message.{cause_message}
 use Rattle.reformat.specs.Error.{error_of}
 use Rattle.reformat.specs.Rewritten.{IsRewritten, AreRewritten}
 use Rattle.reformat.specs.Reformats.{Reformats, WritesAll, reformat_result}

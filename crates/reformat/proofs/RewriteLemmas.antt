@@ -5,9 +5,9 @@ use Rattle.std.specs.List.{AllByRecursion}
 use Rattle.std.proofs.lemmas.List.Elements.{recursion_from_All, All-from_recursion}
 use Rattle.values.specs.declared.kind.Kind.{Kind}
 use Rattle.line_job.specs.Rules.{AreKept, AreAllKept, KeepsLine}
-use Rattle.reformat.specs.declared.dialect.Dialect.{Dialect}
+use Rattle.printer.specs.declared.dialect.Dialect.{Dialect}
 use Rattle.reformat.specs.Rewrite.{Layout}
-use Rattle.reformat.specs.Headers.{IsKindsLine, IsFormatLine, IsDialectLine, IsTemplateLine}
+use Rattle.header_lines.specs.Headers.{IsKindsLine, IsFormatLine, IsDialectLine, IsTemplateLine}
 use Rattle.reformat.specs.Rewritten.{IsTextOf, AreRewritten}
 use Rattle.reformat.specs.Rules.{Stage, kinds_next, format_next, dialect_next, template_next, rows_next, Keeps, Ends, rewrite_rules}
 
@@ -59,7 +59,7 @@ dialect_kept before kinds format (line ∷ lines) owed tail last (first, rest, n
 
 format_kept : (before : ℕ) (kinds : List Kind) (lines : List (List ℕ)) (owed tail : List ℕ) (last : Stage)
     → AreKept rewrite_rules before (format_next kinds) lines owed last → Ends last tail
-    → (line : List ℕ) × (rest : List (List ℕ)) × (lines ≡ line ∷ rest) × IsUtf8 line × IsFormatLine (length kinds) line
+    → (line : List ℕ) × (rest : List (List ℕ)) × (lines ≡ line ∷ rest) × IsUtf8 line × IsFormatLine kinds line
     × AreKept rewrite_rules (before + 1) (dialect_next kinds line) rest owed last
 format_kept before kinds [] owed tail last h ends = absurd (no_end (format_next kinds) last tail h.1 ends)
 format_kept before kinds (line ∷ lines) owed tail last (first, rest, next, keeps, e, more) ends =

@@ -1,103 +1,83 @@
--- What the reading and the printing of a row say of its texts.
-use Rattle.std.proofs.Common.{◌≡◌, ◌≢◌, ◌+◌, ◌++◌, ℕ, List, [], ◌∷◌, length, take, string_bytes, IsCharBoundary, All, sym, ap, ◌∙◌, subst, refl, inl, inr, arith, length-append, append_assoc, Result, Ok, Err, OnOk, OnErr, IfErr}
-use Rattle.std.proofs.Math.Seq.{take-append_seam}
-use Rattle.std.specs.Str.{IsUtf8}
-use Rattle.std.proofs.lemmas.Str.{IsCharBoundary-from_take}
-use Rattle.std.proofs.lemmas.List.Elements.{recursion_from_All}
+-- A row of a plan is a row of the format that was planned.
+use Rattle.std.proofs.Common.{◌≡◌, ◌++◌, ℕ, List, [], ◌∷◌, map, sym, ap, ◌∙◌, subst, refl, inl, inr, append_assoc, Result, Ok, Err, OnOk}
+use Rattle.sprintf.specs.Grammar.{IsFormat}
 use Rattle.sprintf.specs.Printed.{printed}
 use Rattle.sprintf.specs.declared.PrintfError.{PrintfError}
 use Rattle.sprintf.specs.declared.parser.FormatElement.{FormatElement}
-use Rattle.values.specs.Datum.{Datum}
+use Rattle.values.specs.declared.kind.Kind.{Kind}
+use Rattle.values.specs.declared.value.Value.{Value}
+use Rattle.values.specs.Datum.{Datum, kind_of, datum_of, printf_meaning, each_of}
+use Rattle.row_format.specs.Columns.{Columns, columns_of, row_text}
+use Rattle.row_format.specs.Fit.{AreFit}
+use Rattle.row_format.specs.Laws.{PrintsColumns}
+use Rattle.row_format.specs.Plannable.{IsPlannable, IsUnpaired, Never}
+use Rattle.row_format.specs.Row.{IsRow as IsPlanRow}
+use Rattle.row_plan.specs.Plan.{IsRead}
+use Rattle.printer.specs.Prints.{Printing, Prints}
+use Rattle.printer.specs.declared.error.RenderFault.{RenderFault}
 use Rattle.line_job.specs.declared.job.Refusal.{Refusal}
-use Rattle.line_job.specs.declared.job.Refusal.TheVariants.{Line, NoMemory}
-use Rattle.line_job.specs.Refusal.{IfRefused}
-use Rattle.reformat.specs.declared.error.LineCause.{LineCause}
-use Rattle.reformat.specs.declared.error.LineCause.TheVariants.{NotARow, Render}
-use Rattle.reformat.specs.declared.error.RenderFault.{RenderFault}
-use Rattle.reformat.specs.declared.source.Source.{Source}
-use Rattle.reformat.specs.declared.source.Template.{Template}
-use Rattle.reformat.specs.Fault.{IsFaultOf}
-use Rattle.reformat.specs.Rewrite.{IsRow, IsRowOf, IsRewrittenAs}
+use Rattle.header_lines.specs.declared.cause.LineCause.{LineCause}
+use Rattle.header_lines.specs.declared.cause.LineCause.TheVariants.{NotARow, Render}
+use Rattle.header_lines.proofs.ClearHeaders.{header_lines_are_clear}
+use Rattle.reformat.specs.declared.rows.Source.{Source}
+use Rattle.reformat.specs.Rewrite.{IsRow, IsRowOf, Renders, IsRewrittenAs}
 use Rattle.reformat.specs.Rules.{RefusesRow}
-use Rattle.reformat.specs.Inner.Layout.{layout_of, IsSoundSource, IsSoundTemplate}
-use Rattle.reformat.specs.Inner.Numbers.{values_of, IsNumberRow}
-use Rattle.reformat.proofs.RowBridge.{count_is, meanings_are, as_values, only_row, numbers_of_row}
+use Rattle.reformat.specs.Inner.State.{layout_of, IsSoundSource, IsNoRow}
 
-abbrev pub refusal : Refusal LineCause → Result Unit (Refusal LineCause)
-refusal why = Err why
+abbrev row_is : List ℕ → Result (List ℕ) PrintfError
+row_is row = Ok row
 
--- a text that grew may be cut where it ended before
-pub boundary_behind : (front more text : List ℕ) (n : ℕ) → n ≡ length front → text ≡ front ++ more → IsUtf8 front → IsUtf8 text → IsCharBoundary text n
-boundary_behind front more text n e is u v =
-    let cut : take n text ≡ front = rw (e, is) (take-append_seam front more) in
-    let len : length text ≡ length front + length more = rw is (length-append front more) in
-    IsCharBoundary-from_take text n v (omega (arith, e, len)) (subst IsUtf8 (sym cut) u)
+row_of_plan : PrintsColumns → (source : Source) (row : List ℕ) (values : List Datum) → IsSoundSource source → IsPlanRow source.plan.format source.plan.kinds row values → IsRow source.plan.kinds source.text.now row values
+row_of_plan prints source row values sound is =
+    let fit : AreFit (columns_of sound.elements).columns source.plan.kinds values = subst (λ (c : Columns). AreFit c.columns source.plan.kinds values) sound.columns is.fit in
+    let text : row ≡ row_text (columns_of sound.elements) source.plan.kinds values = is.text ∙ ap (λ (c : Columns). row_text c source.plan.kinds values) sound.columns in
+    record { elements = sound.elements; spelled = sound.spelled; fit = fit; prints = prints sound.elements source.plan.kinds values sound.plannable.paired fit ∙ sym (ap Ok text) }
 
-pub cut_again : (front more text cut : List ℕ) (n : ℕ) → n ≡ length front → text ≡ front ++ more → cut ≡ take n text → cut ≡ front
-cut_again front more text cut n e is same = same ∙ ap (λ (k : ℕ). take k text) e ∙ ap (take (length front)) is ∙ take-append_seam front more
+plan_row : PrintsColumns → (source : Source) (row : List ℕ) (values : List Datum) → IsSoundSource source → IsRow source.plan.kinds source.text.now row values → IsPlanRow source.plan.format source.plan.kinds row values
+plan_row prints source row values sound is =
+    let kinds : List Kind = source.plan.kinds in
+    let same : columns_of is.elements ≡ columns_of sound.elements = header_lines_are_clear.one_thing.columns source.text.now is.elements sound.elements is.spelled sound.spelled in
+    let all : columns_of is.elements ≡ source.plan.format = same ∙ sym sound.columns in
+    let paired : Never IsUnpaired (columns_of is.elements).columns kinds = subst (λ (c : Columns). Never IsUnpaired c.columns kinds) (sym same) sound.plannable.paired in
+    let texts : row_is row ≡ row_is (row_text (columns_of is.elements) kinds values) = sym is.prints ∙ prints is.elements kinds values paired is.fit in
+    let text : row ≡ row_text (columns_of is.elements) kinds values = cc in
+    record { fit = subst (λ (c : Columns). AreFit c.columns kinds values) all is.fit; text = text ∙ ap (λ (c : Columns). row_text c kinds values) all }
 
-values_are : (source : Source) (row numbers : List ℕ) → IsSoundSource source → IsNumberRow source.elements.items row numbers → length numbers ≡ length source.kinds.items
-values_are source row numbers sound is = count_is (length source.kinds.items) source.elements.items row numbers sound.in_form is
+row_of : PrintsColumns → (source : Source) (printing : Printing) (row : List ℕ) (values : List Value) → IsSoundSource source → IsRead source.plan row values → IsRowOf (layout_of source printing) row (map datum_of values)
+row_of prints source printing row values sound read = record {
+  is_row = row_of_plan prints source row (map datum_of values) sound read.row;
+  only = λ others is. read.only others (plan_row prints source row others sound is);
+}
 
-pub row_rewritten : (source : Source) (template : Template) (row numbers line : List ℕ) → IsSoundSource source → IsSoundTemplate template → IsNumberRow source.elements.items row numbers
-    → printed template.elements.items (values_of numbers) ≡ Ok line → IsRewrittenAs (layout_of source template) row line
-row_rewritten source template row numbers line sound spelled is prints =
-    let each = recursion_from_All _ source.kinds.items sound.each in (
-      as_values numbers,
-      only_row (layout_of source template) source.elements.items row numbers each sound.spelled sound.in_form is,
-      (template.elements.items, spelled, ap (printed template.elements.items) (meanings_are source.kinds.items numbers each (values_are source row numbers sound is)) ∙ prints),
-    )
+-- what the printer prints of the values, it prints by the layout
+renders : (source : Source) (printing : Printing) (values : List Value) (outcome : Result (List ℕ) RenderFault) → printing.names ≡ [] → map kind_of values ≡ source.plan.kinds
+    → Prints printing (map kind_of values) (map datum_of values) outcome → Renders (layout_of source printing) (map datum_of values) outcome
+renders source printing values outcome none kinds prints =
+    let by_kinds : Prints printing source.plan.kinds (map datum_of values) outcome = subst (λ (k : List Kind). Prints printing k (map datum_of values) outcome) kinds prints in
+    subst (λ (n : List (List ℕ)). Prints (record { dialect = printing.dialect; template = printing.template; names = n }) source.plan.kinds (map datum_of values) outcome) none by_kinds
 
-pub row_unrendered : (source : Source) (template : Template) (number : ℕ) (row numbers : List ℕ) (cause : PrintfError) (fault : RenderFault) → IsSoundSource source → IsSoundTemplate template
-    → IsNumberRow source.elements.items row numbers → printed template.elements.items (values_of numbers) ≡ Err cause → IsFaultOf cause fault → RefusesRow (layout_of source template) number row (Render number fault)
-row_unrendered source template number row numbers cause fault sound spelled is prints told =
-    let each = recursion_from_All _ source.kinds.items sound.each in
-    inr (
-      as_values numbers,
-      fault,
-      only_row (layout_of source template) source.elements.items row numbers each sound.spelled sound.in_form is,
-      (cause, inr (template.elements.items, spelled, ap (printed template.elements.items) (meanings_are source.kinds.items numbers each (values_are source row numbers sound is)) ∙ prints), told),
-      refl,
-    )
+abbrev text_is : List ℕ → Result (List ℕ) RenderFault
+text_is line = Ok line
 
-pub row_unread : (source : Source) (template : Template) (number : ℕ) (row : List ℕ) → IsSoundSource source → ((others : List ℕ) → ¬ IsNumberRow source.elements.items row others)
-    → RefusesRow (layout_of source template) number row (NotARow number)
-row_unread source template number row sound none =
-    let each = recursion_from_All _ source.kinds.items sound.each in
-    let nothing : (values : List Datum) → ¬ IsRow source.kinds.items source.text.now row values =
-    λ values is. (let h = numbers_of_row source.kinds.items source.text.now source.elements.items row values each sound.spelled is in none h.0 h.2) in
-    inl (nothing, refl)
+abbrev fault_is : RenderFault → Result (List ℕ) RenderFault
+fault_is fault = Err fault
 
--- want of memory refuses no line
-pub no_refusal : {T : Type 0} (r : Result T (Refusal LineCause)) (P : LineCause → Type 0) → IfErr r (λ why. why ≡ NoMemory) → IfRefused r P
-no_refusal (Ok t) P h = tt
-no_refusal (Err (Line why)) P h = absurd (cc)
-no_refusal (Err NoMemory) P h = tt
+pub rewritten : PrintsColumns → (source : Source) (printing : Printing) (row line : List ℕ) (values : List Value) → IsSoundSource source → printing.names ≡ [] → IsRead source.plan row values
+    → Prints printing (map kind_of values) (map datum_of values) (text_is line) → IsRewrittenAs (layout_of source printing) row line
+rewritten prints source printing row line values sound none read text =
+    (map datum_of values, row_of prints source printing row values sound read, renders source printing values (text_is line) none read.kinds text)
+
+pub unrendered : PrintsColumns → (source : Source) (printing : Printing) (number : ℕ) (row : List ℕ) (fault : RenderFault) (values : List Value) → IsSoundSource source → printing.names ≡ [] → IsRead source.plan row values
+    → Prints printing (map kind_of values) (map datum_of values) (fault_is fault) → RefusesRow (layout_of source printing) number row (Render number fault)
+unrendered prints source printing number row fault values sound none read text =
+    inr (map datum_of values, fault, row_of prints source printing row values sound read, renders source printing values (fault_is fault) none read.kinds text, refl)
+
+pub unread : PrintsColumns → (source : Source) (printing : Printing) (number : ℕ) (row : List ℕ) (why : LineCause) → IsSoundSource source → IsNoRow source.plan number row why → RefusesRow (layout_of source printing) number row why
+unread prints source printing number row why sound none = inl ((λ values is. none.0 values (plan_row prints source row values sound is)), none.1)
 
 pub on_ok : {T E A B : Type 0} (r : Result T E) → (A → B) → OnOk r A → OnOk r B
 on_ok (Ok t) f h = f h
 on_ok (Err e) f h = tt
 
-pub on_err : {T E A B : Type 0} (r : Result T E) → (A → B) → OnErr r A → OnErr r B
-on_err (Ok t) f h = tt
-on_err (Err e) f h = f h
-
 pub ended : (old text mid new : List ℕ) → mid ≡ old ++ text → new ≡ mid ++ 10 ∷ [] → new ≡ old ++ (text ++ 10 ∷ [])
 ended old text mid new e f = f ∙ ap (λ (t : List ℕ). t ++ 10 ∷ []) e ∙ append_assoc old text (10 ∷ [])
-
-pub refused_as : (answer : Refusal LineCause) (why : LineCause) (P : LineCause → Type 0) → answer ≡ Line why → P why → IfRefused (refusal answer) P
-refused_as answer why P is holds = subst (λ (a : Refusal LineCause). IfRefused (refusal a) P) (sym is) holds
-
-pub refused_not : (answer : Refusal LineCause) (P : LineCause → Type 0) → answer ≡ NoMemory → IfRefused (refusal answer) P
-refused_not answer P is = subst (λ (a : Refusal LineCause). IfRefused (refusal a) P) (sym is) tt
-
--- the same, where the code sees slices
-
-pub row_moves : (a b : List FormatElement) (r s numbers : List ℕ) → a ≡ b → r ≡ s → IsNumberRow a r numbers → IsNumberRow b s numbers
-row_moves a b r s numbers e f h = subst (λ (es : List FormatElement). IsNumberRow es s numbers) e (subst (λ (t : List ℕ). IsNumberRow a t numbers) f h)
-
-pub none_moves : (a b : List FormatElement) (r s : List ℕ) → a ≡ b → r ≡ s → ((others : List ℕ) → ¬ IsNumberRow a r others) → (others : List ℕ) → ¬ IsNumberRow b s others
-none_moves a b r s e f h = λ others is. h others (row_moves b a s r others (sym e) (sym f) is)
-
-pub prints_moves : (a b : List FormatElement) (ns ms : List ℕ) (outcome : Result (List ℕ) PrintfError) → a ≡ b → ns ≡ ms → printed a (values_of ns) ≡ outcome → printed b (values_of ms) ≡ outcome
-prints_moves a b ns ms outcome e f h = sym (ap (λ (es : List FormatElement). printed es (values_of ms)) e) ∙ sym (ap (λ (ks : List ℕ). printed a (values_of ks)) f) ∙ h

@@ -1,8 +1,4 @@
 -- What only private calls and proofs cite.
-pub mod Pieces
-pub mod Digits
-pub mod Numbers
-pub mod ElementRead
-pub mod Layout
 pub mod State
+pub mod Said
 pub mod Clear

@@ -1,10 +1,5 @@
-pub mod Dialect
-pub mod Fault
-pub mod Format
 pub mod Rewrite
-pub mod Headers
 pub mod Rewritten
-pub mod Message
 pub mod Error
 pub mod Rules
 pub mod Reformats

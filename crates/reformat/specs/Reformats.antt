@@ -5,7 +5,7 @@ use Rattle.whiteread.specs.Lines.{lines_of}
 use Rattle.line_job.specs.declared.stop.Stop.{Stop}
 use Rattle.line_job.specs.Ends.{Seen, SourceState, SinkState, CountsReadFault, CountsWriteFault, Took}
 use Rattle.line_job.specs.Runs.{Runs}
-use Rattle.reformat.specs.declared.error.LineCause.{LineCause}
+use Rattle.header_lines.specs.declared.cause.LineCause.{LineCause}
 use Rattle.reformat.specs.declared.error.ReformatError.{ReformatError}
 use Rattle.reformat.specs.declared.error.ReformatError.TheVariants.{NoMemory}
 use Rattle.reformat.specs.Error.{error_of}

@@ -1,9 +1,9 @@
 -- What is written for all of an input.
-use Rattle.std.specs.Prelude.{◌≡◌, ℕ, List, [], ◌∷◌, ◌++◌, length, All}
+use Rattle.std.specs.Prelude.{◌≡◌, ℕ, List, [], ◌∷◌, ◌++◌, All}
 use Rattle.std.specs.Str.{IsUtf8}
 use Rattle.whiteread.specs.Lines.{lines_of, line_feed}
 use Rattle.reformat.specs.Rewrite.{Layout, IsRewrittenAs}
-use Rattle.reformat.specs.Headers.{IsKindsLine, IsFormatLine, IsDialectLine, IsTemplateLine}
+use Rattle.header_lines.specs.Headers.{IsKindsLine, IsFormatLine, IsDialectLine, IsTemplateLine}
 
 -- The text is, for each row in order, the line that it is rewritten as, and a line feed.
 abbrev pub IsTextOf : Layout → List (List ℕ) → List ℕ → Type 0
@@ -19,7 +19,7 @@ pub record AreRewritten (lines : List (List ℕ)) (text : List ℕ) : Type 0 whe
   pub lines_are : lines ≡ kinds_line ∷ layout.format ∷ dialect_line ∷ layout.template ∷ rows
   pub utf8 : All IsUtf8 lines
   pub kinds : IsKindsLine kinds_line layout.kinds
-  pub format : IsFormatLine (length layout.kinds) layout.format
+  pub format : IsFormatLine layout.kinds layout.format
   pub dialect : IsDialectLine dialect_line layout.dialect
   pub template : IsTemplateLine layout.dialect layout.template
   pub text_of : IsTextOf layout rows text

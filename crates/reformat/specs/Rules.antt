@@ -1,15 +1,15 @@
 -- The rules of the job that rewrites rows.
-use Rattle.std.specs.Prelude.{◌≡◌, ◌⊎◌, ℕ, List, [], ◌∷◌, ◌++◌, length, Bool, true, Err}
+use Rattle.std.specs.Prelude.{◌≡◌, ◌⊎◌, ℕ, List, [], ◌∷◌, ◌++◌, Bool, true, Err}
 use Rattle.whiteread.specs.Lines.{line_feed}
 use Rattle.values.specs.declared.kind.Kind.{Kind}
 use Rattle.values.specs.Datum.{Datum}
 use Rattle.line_job.specs.Rules.{Rules}
-use Rattle.reformat.specs.declared.dialect.Dialect.{Dialect}
-use Rattle.reformat.specs.declared.error.LineCause.{LineCause}
-use Rattle.reformat.specs.declared.error.LineCause.TheVariants.{Header, NotARow, Render}
-use Rattle.reformat.specs.declared.error.RenderFault.{RenderFault}
+use Rattle.printer.specs.declared.dialect.Dialect.{Dialect}
+use Rattle.header_lines.specs.declared.cause.LineCause.{LineCause}
+use Rattle.header_lines.specs.declared.cause.LineCause.TheVariants.{Header, NotARow, Render}
+use Rattle.printer.specs.declared.error.RenderFault.{RenderFault}
 use Rattle.reformat.specs.Rewrite.{Layout, IsRow, IsRowOf, Renders, IsRewrittenAs}
-use Rattle.reformat.specs.Headers.{IsKindsLine, RefusesKinds, IsFormatLine, RefusesFormatLine, IsDialectLine, RefusesDialect, IsTemplateLine, RefusesTemplate}
+use Rattle.header_lines.specs.Headers.{IsKindsLine, RefusesKinds, IsFormatLine, RefusesFormatLine, IsDialectLine, RefusesDialect, IsTemplateLine, RefusesTemplateLine}
 
 -- Which line comes next, and what the lines before it said.
 pub data Stage : Type 0 where
@@ -27,7 +27,7 @@ RefusesRow layout number row why = (((values : List Datum) → ¬ IsRow layout.k
 -- A header is kept by its rule, and nothing is owed for it; a row is kept where it is rewritten, and the line and a line feed are owed.
 abbrev pub Keeps : Stage → ℕ → List ℕ → List ℕ → Stage → Type 0
 Keeps kinds_next number line text next = (text ≡ []) × ((kinds : List Kind) × IsKindsLine line kinds × (next ≡ format_next kinds))
-Keeps (format_next kinds) number line text next = (text ≡ []) × IsFormatLine (length kinds) line × (next ≡ dialect_next kinds line)
+Keeps (format_next kinds) number line text next = (text ≡ []) × IsFormatLine kinds line × (next ≡ dialect_next kinds line)
 Keeps (dialect_next kinds format) number line text next = (text ≡ []) × ((dialect : Dialect) × IsDialectLine line dialect × (next ≡ template_next kinds format dialect))
 Keeps (template_next kinds format dialect) number line text next =
     (text ≡ []) × IsTemplateLine dialect line × (next ≡ rows_next (record { kinds = kinds; format = format; dialect = dialect; template = line }))
@@ -36,9 +36,9 @@ Keeps (rows_next layout) number row text next = ((line : List ℕ) × IsRewritte
 -- A line is refused by its rule.
 abbrev pub Refuses : Stage → ℕ → List ℕ → LineCause → Type 0
 Refuses kinds_next number line why = RefusesKinds number line why
-Refuses (format_next kinds) number line why = RefusesFormatLine number (length kinds) line why
+Refuses (format_next kinds) number line why = RefusesFormatLine number kinds line why
 Refuses (dialect_next kinds format) number line why = RefusesDialect number line why
-Refuses (template_next kinds format dialect) number line why = RefusesTemplate number dialect line why
+Refuses (template_next kinds format dialect) number line why = RefusesTemplateLine number dialect line why
 Refuses (rows_next layout) number row why = RefusesRow layout number row why
 
 -- The input may end after the headers, and nothing more is owed.

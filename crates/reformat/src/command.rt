@@ -1,17 +1,21 @@
 // The commands of the program.
-ghost use Rattle.std.specs.Prelude.{◌≡◌, map, string_bytes, IsTrue, ◌↔◌};
+ghost use Rattle.std.specs.Prelude.{◌≡◌, ℕ, List, map, string_bytes, MatchOption};
 ghost use Rattle.line_job.specs.Ends.{Tells, source_seen, sink_seen};
 ghost use Rattle.line_job.specs.Told.{RunsTold};
-ghost use Rattle.reformat.specs.Message.{cause_message, usage};
+ghost use Rattle.header_lines.specs.Message.{cause_message};
+ghost use Rattle.plan_jobs.specs.Plan.{plan_rules, kinds_next as plan_start};
+ghost use Rattle.plan_jobs.specs.Scan.{scan_rules};
 ghost use Rattle.reformat.specs.Rules.{rewrite_rules, kinds_next};
 ghost use Rattle.reformat.specs.Reformats.{Reformats, WritesAll};
-ghost use Rattle.reformat.specs.Run.{rewrite_words, input_limit, Completes};
+ghost use Rattle.reformat.specs.Run.{usage, rewrite_words, plan_words, scan_words, IsCommand, input_limit, Completes};
+ghost use Rattle.reformat.specs.Inner.Said.{IsSaid};
 
 use crate::ReformatError;
 use crate::rewrite::Rewrite;
 use bumpalo::Bump;
 use edge_io::{Sink, Source};
 use line_job::{run_job, run_told, tell};
+use plan_jobs::{run_plan, run_scan};
 use std::alloc::Global;
 
 /// How many bytes of input a command takes at most.
@@ -42,6 +46,28 @@ pub fn reformat<S: Source, K: Sink>(
     }
 }
 
+/// What the words of the program say.
+enum Command<'w> {
+    Rewrite,
+    Plan,
+    Scan(&'w str),
+}
+
+/// The command that the words say.
+fn command_of(words: &[String]) -> Option<Command<'_>>
+    ensures { MatchOption result (¬ IsCommand (map string_bytes words.now)) (IsSaid (map string_bytes words.now)) }
+{
+    match words {
+        [word] => match word.as_str() {
+            "rewrite" => Some(Command::Rewrite),
+            "plan" => Some(Command::Plan),
+            _ => None,
+        },
+        [word, format] if word.as_str() == "scan" => Some(Command::Scan(format.as_str())),
+        _ => None,
+    }
+}
+
 /// Does what the words say, and answers the exit status: 0 for success, 1 for a refused line, 2 where the words are
 /// no command, 3 past the limit, 4 for a read fault, 5 for a write fault, 6 for want of memory.
 pub fn run<S: Source, K: Sink, E: Sink>(
@@ -63,28 +89,32 @@ pub fn run<S: Source, K: Sink, E: Sink>(
     ensures complete { map string_bytes words.now ≡ rewrite_words
         → Completes (source_seen S.supply input.old input.new) (sink_seen K.held K.faults output.old output.new) result }
 
+    // Every status of `plan` is that of a result of the job that plans, and its message is told.
+    ensures plans { map string_bytes words.now ≡ plan_words
+        → RunsTold plan_rules plan_start cause_message input_limit (source_seen S.supply input.old input.new) (sink_seen K.held K.faults output.old output.new) (sink_seen E.held E.faults errors.old errors.new) result }
+
+    // Every status of `scan` is that of a result of the job that scans by the format, and its message is told.
+    ensures scans { (format : List ℕ) → map string_bytes words.now ≡ scan_words format
+        → RunsTold scan_rules (record { format = format }) cause_message input_limit (source_seen S.supply input.old input.new) (sink_seen K.held K.faults output.old output.new) (sink_seen E.held E.faults errors.old errors.new) result }
+
     // Other words are no command: the usage line is told, and nothing is read or written.
-    ensures usage { ¬ (map string_bytes words.now ≡ rewrite_words)
+    ensures usage { ¬ IsCommand (map string_bytes words.now)
         → (result ≡ 2) × (input.new ≡ input.old) × (output.new ≡ output.old) × Tells (sink_seen E.held E.faults errors.old errors.new) usage }
 
     // Success tells nothing.
     ensures quiet { result ≡ 0 → errors.new ≡ errors.old }
 {
-    if is_rewrite(words) {
-        let texts = Bump::new(alloc);
-        let mut job = Rewrite::new(alloc, &texts);
-        run_told(alloc, &mut job, input, output, errors, LIMIT)
-    } else {
-        tell(errors, USAGE);
-        2
-    }
-}
-
-fn is_rewrite(words: &[String]) -> bool
-    ensures { IsTrue result ↔ (map string_bytes words.now ≡ rewrite_words) }
-{
-    match words {
-        [word] => word.as_str() == "rewrite",
-        _ => false,
+    match command_of(words) {
+        Some(Command::Rewrite) => {
+            let texts = Bump::new(alloc);
+            let mut job = Rewrite::new(alloc, &texts);
+            run_told(alloc, &mut job, input, output, errors, LIMIT)
+        }
+        Some(Command::Plan) => run_plan(alloc, input, output, errors, LIMIT),
+        Some(Command::Scan(format)) => run_scan(alloc, format, input, output, errors, LIMIT),
+        None => {
+            tell(errors, USAGE);
+            2
+        }
     }
 }

@@ -6,12 +6,11 @@ ghost use Rattle.reformat.specs.Rules.{Stage, rewrite_rules, Keeps, Refuses};
 ghost use Rattle.reformat.specs.Inner.State.{stage_of, IsHeaderNext, IsSoundState};
 ghost use Rattle.reformat.specs.Inner.Clear.{rewrite_clear};
 
-use crate::LineCause;
-use crate::headers::{read_dialect, read_kinds, read_source, read_template};
-use crate::row::rewrite_row;
-use crate::source::{Source, Template};
+use crate::rows::{Source, read_source, rewrite_row};
 use bumpalo::Bump;
+use header_lines::{LineCause, read_dialect, read_kinds, read_template};
 use line_job::{LineJob, Refusal};
+use printer::{Dialect, Printer};
 use std::alloc::Global;
 use std::mem;
 use values::Kind;
@@ -22,8 +21,8 @@ pub(crate) enum State<'a> {
     Kinds,
     Format(Vec<Kind>),
     Dialect(Source<'a>),
-    Template(Source<'a>),
-    Rows(Source<'a>, Template<'a>),
+    Template(Source<'a>, Dialect),
+    Rows(Source<'a>, Printer<'a>),
 }
 
 /// Reads the header line that comes next.
@@ -42,25 +41,26 @@ fn read_header<'a>(
 {
     match state {
         State::Kinds => Ok(State::Format(read_kinds(alloc, number, line)?)),
-        State::Format(kinds) => Ok(State::Dialect(read_source(alloc, texts, number, kinds, line)?)),
-        State::Dialect(source) => {
-            read_dialect(number, line)?;
-            Ok(State::Template(source))
+        State::Format(kinds) => {
+            let source = read_source(alloc, texts, number, &kinds, line)?;
+            Ok(State::Dialect(source))
         }
-        State::Template(source) => {
-            let template = read_template(alloc, texts, number, line)?;
-            Ok(State::Rows(source, template))
+        State::Dialect(source) => Ok(State::Template(source, read_dialect(number, line)?)),
+        State::Template(source, dialect) => {
+            let printer = read_template(alloc, texts, number, dialect, line)?;
+            Ok(State::Rows(source, printer))
         }
-        State::Rows(source, template) => Ok(State::Rows(source, template)),
+        State::Rows(source, printer) => Ok(State::Rows(source, printer)),
     }
 }
 
-/// The job that rewrites rows. The texts of its headers are kept in an arena, since their elements lend from them.
+/// The job that rewrites rows. The texts of its headers are kept in an arena, since their parts lend from them, and one text
+/// for the whole run, in which each row is printed again.
 #[derive(Drop)]
 pub(crate) struct Rewrite<'a> {
     texts: &'a Bump,
     state: State<'a>,
-    numbers: Vec<u64>,
+    again: String,
 }
 
 impl<'a> Rewrite<'a> {
@@ -71,7 +71,7 @@ impl<'a> Rewrite<'a> {
         Rewrite {
             texts,
             state: State::Kinds,
-            numbers: Vec::new(alloc),
+            again: String::new(alloc),
         }
     }
 }
@@ -98,16 +98,8 @@ impl LineJob for Rewrite<'_> {
         line: &str,
         out: &mut String,
     ) -> Result<(), Refusal<LineCause>> {
-        if let State::Rows(source, template) = &self.state {
-            return rewrite_row(
-                alloc,
-                source,
-                template,
-                number,
-                line,
-                &mut self.numbers,
-                out,
-            );
+        if let State::Rows(source, printer) = &self.state {
+            return rewrite_row(alloc, source, printer, number, line, &mut self.again, out);
         }
         let state = mem::replace(&mut self.state, State::Kinds);
         self.state = read_header(alloc, self.texts, state, number, line)?;
@@ -124,7 +116,7 @@ impl LineJob for Rewrite<'_> {
             State::Kinds => Err(Refusal::Line(LineCause::Header { line: 1 })),
             State::Format(_) => Err(Refusal::Line(LineCause::Header { line: 2 })),
             State::Dialect(_) => Err(Refusal::Line(LineCause::Header { line: 3 })),
-            State::Template(_) => Err(Refusal::Line(LineCause::Header { line: 4 })),
+            State::Template(_, _) => Err(Refusal::Line(LineCause::Header { line: 4 })),
             State::Rows(_, _) => Ok(()),
         }
     }

@@ -52,3 +52,24 @@ fn stops_within_a_row_or_a_header(rt: HostRuntime) -> Result<(), Fail> {
     assert_eq!(rt; got, Err(ReformatError::Header { line: 1 }));
     Ok(())
 }
+
+// Headers of 16 bytes and twelve rows of two, at the limit of 40.
+#[test]
+fn takes_forty_bytes(rt: HostRuntime) -> Result<(), Fail> {
+    let alloc = rt.alloc();
+    let exact = joined(alloc, b"u8\n%d\nprintf\n%d\n", TWELVE)?;
+    let longer = joined(alloc, &exact, b"7")?;
+    for piece in [1, 4096] {
+        for (bytes, want) in [
+            (exact.as_slice(), Ok(12)),
+            (longer.as_slice(), Err(ReformatError::TooLong)),
+        ] {
+            let mut input = source(alloc, bytes, piece)?;
+            let mut output = sink(alloc, 1)?;
+            let got = reformat(alloc, &mut input, &mut output, 40);
+            assert_eq!(rt; got, want);
+            assert_eq!(rt; output.bytes(), TWELVE);
+        }
+    }
+    Ok(())
+}

@@ -1,74 +1,238 @@
 // What is written and told for an input, with its words, status, output and message; `^` stands for a line feed.
 use crate::support::{run_table, sink, source};
 use edge_io::MemSink;
-use reformat::{ReformatError, TemplateFault, reformat, run};
+use reformat::{ReformatError, Refused, RenderFault, TemplateFault, reformat, run};
 use std::test::Fail;
 
 const ROWS: &str = "\
-rewrite;u64 u64^%d-%u^printf^%u %d^1-2^;0;1 2^;
-rewrite;u64 u64^%d-%u^printf^%u %d^1-2;0;1 2^;
-rewrite;^x^printf^y^x^x^;0;y^y^;
-rewrite;u64 u64^%d-%u^printf^%u %d^01-2^;1;;line 5: not a row^
-rewrite;u64 u64^%d-%u^printf^%u %d^1-^;1;;line 5: not a row^
-rewrite;u64 u64^%d-%u^printf^%u %d^1-2x^;1;;line 5: not a row^
-rewrite;u64 u64^%d-%u^printf^%u %d^1 -2^;1;;line 5: not a row^
-rewrite;u64 u64^%d-%u^printf^%u %d^+1-2^;1;;line 5: not a row^
-rewrite;u64^%d^printf^%d^18446744073709551615^;0;18446744073709551615^;
-rewrite;u64^%d^printf^%d^18446744073709551616^;1;;line 5: not a row^
-rewrite;u64^%d^printf^%d^0^00^;1;0^;line 6: not a row^
-rewrite;u64^%d^printf^%d^1^^;1;1^;line 6: not a row^
-rewrite;u64^%d^printf^%d^1^2^x^3^;1;1^2^;line 7: not a row^";
+rewrite~u64 u64^%d-%u^printf^%u %d^1-2^~0~1 2^~
+rewrite~u64 u64^%d-%u^printf^%u %d^1-2~0~1 2^~
+rewrite~^x^printf^y^x^x^~0~y^y^~
+rewrite~u64 u64^%d-%u^printf^%u %d^01-2^~1~~line 5: not a row^
+rewrite~u64 u64^%d-%u^printf^%u %d^1-^~1~~line 5: not a row^
+rewrite~u64 u64^%d-%u^printf^%u %d^1-2x^~1~~line 5: not a row^
+rewrite~u64 u64^%d-%u^printf^%u %d^1 -2^~1~~line 5: not a row^
+rewrite~u64 u64^%d-%u^printf^%u %d^+1-2^~1~~line 5: not a row^
+rewrite~u64^%d^printf^%d^18446744073709551615^~0~18446744073709551615^~
+rewrite~u64^%d^printf^%d^18446744073709551616^~1~~line 5: not a row^
+rewrite~u64^%d^printf^%d^0^00^~1~0^~line 6: not a row^
+rewrite~u64^%d^printf^%d^1^^~1~1^~line 6: not a row^
+rewrite~u64^%d^printf^%d^1^2^x^3^~1~1^2^~line 7: not a row^
+rewrite~u8^%d^printf^%d^7^007^~1~7^~line 6: not a row^
+rewrite~u8^%d^printf^%d^300^~1~~line 5: not a row^
+rewrite~u8^%2147483647d^printf^%d^7^~1~~line 5: not a row^";
+
+const KINDS: &str = "\
+rewrite~i64 u64^%d,%d^printf^%d %d^-9223372036854775808,18446744073709551615^~0~-9223372036854775808 18446744073709551615^~
+rewrite~u8 u8^%#X;%o^printf^%d %d^0XFF;377^~0~255 255^~
+rewrite~i8 word^%x:%s.^printf^%d%s^ff:a.^~0~-1a^~
+rewrite~i32^%d^printf^%d^-0^~1~~line 5: not a row^
+rewrite~i32^%d^printf^%d^-5^~0~-5^~
+rewrite~word^%-6s|^printf^%s^ab    |^~0~ab^~
+rewrite~word^%-6s|^printf^%s^a|b   |^~1~~line 5: not a row^
+rewrite~usize isize i16 u16^%u %i %d %x^printf^%d,%d,%d,%d^7 -7 -32768 ffff^~0~7,-7,-32768,65535^~
+rewrite~char word^%c=%s^formatx^{1}{0}^a=bc^~0~bca^~
+rewrite~char word^%c=%s^formatx^{1}{0}^==b^~1~~line 5: not a row^
+rewrite~char word^%c=%s^formatx^{1}{0}^ab=c^~1~~line 5: not a row^
+rewrite~char^%-8c|^formatx^{0:?}^é      |^~0~'é'^~";
+
+const TOUCHING: &str = "\
+rewrite~i32 i32^%d%+d^printf^%d %d^1+2^~0~1 2^~
+rewrite~i32 u32^%08x%08x^printf^%d %u^ffffffff00000010^~0~-1 16^~
+rewrite~word i64^%s%25d^printf^%s=%d^x{y                        7^~0~x{y=7^~
+rewrite~u8 i8^%d%4d^printf^%d %d^7-100^7   5^~0~7 -100^7 5^~
+rewrite~char u8^%c%4d^formatx^{1}{0}^x   7^~0~7x^~
+rewrite~u8 char^%d%2c^formatx^{1}{0}^7 x^7é^~0~x7^é7^~";
+
+const DIALECTS: &str = "\
+rewrite~i32 i32^%d-%d^formatx^{1} {0}^1--2^~0~-2 1^~
+rewrite~i32 i32^%d-%d^formatx^{1} {0}^1--2~0~-2 1^~
+rewrite~i32 i32\r^%d-%d\r^formatx\r^{1} {0}\r^1--2\r^~0~-2 1\r^~
+rewrite~word u32 word u64^%s [%08u] %s: %llu bytes^strfmt^{2} {3} {0}^web01 [00000412] GET: 5120 bytes^~0~GET 5120 web01^~
+rewrite~u8^%d^strfmt^{0:x} }^1^2^~1~~line 5: template fault: Invalid^
+rewrite~u8^%d^strfmt^{1}^9^~1~~line 5: template fault: KeyError^
+rewrite~u8^%d^strfmt^{0:.2}^9^~1~~line 5: template fault: TypeError^
+rewrite~u8^%d^formatx^{1}^9^~1~~line 5: template fault: MissingArgument^
+rewrite~u8^%d^formatx^{0:x}^9^~1~~line 5: template fault: UnsupportedTrait^
+rewrite~u8^%d^formatx^{0:1$}^9^~1~~line 5: template fault: Parse^";
 
 const HEADER_LINES: &str = "\
-rewrite;;1;;line 1: bad header^
-rewrite;u8^%d^printf^%d^7^;1;;line 1: not built^
-rewrite;u64 u128^%d^printf^%d^;1;;line 1: bad header^
-rewrite;u64 char^%d%c^printf^%d^;1;;line 1: not built^
-rewrite;u64^;1;;line 2: bad header^
-rewrite;u64;1;;line 2: bad header^
-rewrite;u64^%5d^printf^%d^;1;;line 2: not built^
-rewrite;u64 u64^%d%d^printf^%d^;1;;line 2: not built^
-rewrite;u64^%d0^printf^%d^;1;;line 2: not built^
-rewrite;u64^%x^printf^%d^;1;;line 2: not built^
-rewrite;u64^%y^printf^%d^;1;;line 2: not a printf format^
-rewrite;u64^%d^c^%d^;1;;line 3: bad header^
-rewrite;u64^%d^printf printf^%d^;1;;line 3: bad header^
-rewrite;u64^%d^strfmt^{0}^;1;;line 3: not built^
-rewrite;u64^%d^printf^;1;;line 4: bad header^
-rewrite;u64^%d^printf^%^;1;;line 4: not a printf template^
-rewrite;u64^%d^printf^%d;0;;";
+rewrite~~1~~line 1: bad header^
+rewrite~u64 u128^%d^printf^%d^~1~~line 1: bad header^
+rewrite~u8 u128^%d^printf^%d^~1~~line 1: bad header^
+rewrite~u64^~1~~line 2: bad header^
+rewrite~u64~1~~line 2: bad header^
+rewrite~u64^%y^printf^%d^~1~~line 2: not a printf format^
+rewrite~u64^%d^c^%d^~1~~line 3: bad header^
+rewrite~u64^%d^printf printf^%d^~1~~line 3: bad header^
+rewrite~u64^%d^printf^~1~~line 4: bad header^
+rewrite~u64^%d^printf^%^~1~~line 4: not a printf template^
+rewrite~u64^%d^formatx^{^~1~~line 4: not a formatx template^
+rewrite~u64^%d^strfmt^{^~0~~
+rewrite~u64^%d^printf^%d~0~~";
+
+const REFUSED_FORMATS: &str = "\
+rewrite~word^%.3s^~1~~line 2: field 1: lossy^
+rewrite~word^%d^~1~~line 2: field 1: kind^
+rewrite~word word^%.3s%d^~1~~line 2: field 2: kind^
+rewrite~u8 u8^%d^~1~~line 2: field 2: kind^
+rewrite~u8^%*d^~1~~line 2: field 1: kind^
+rewrite~u8^%c^~1~~line 2: field 1: kind^
+rewrite~u32 u32^%u%+u^~1~~line 2: field 1: runs on^
+rewrite~u64 u64^%d%d^~1~~line 2: field 1: runs on^
+rewrite~i64 i64^% 020d%d^~1~~line 2: field 1: runs on^
+rewrite~u8^%xx^~1~~line 2: field 1: runs on^
+rewrite~u64^%d0^~1~~line 2: field 1: runs on^
+rewrite~u8 i8^%d%3d^~1~~line 2: field 1: runs on^
+rewrite~char char^%c%c^~1~~line 2: field 1: runs on^
+rewrite~u8 char^%d%c^~1~~line 2: field 1: runs on^
+plan~u32 u32^%u %u%+u^~1~~line 2: field 3: kind^
+plan~u32 u32 u8^%u %u%+u^~1~~line 2: field 2: runs on^";
 
 const TEMPLATES: &str = "\
-rewrite;u64^%d%%^printf^%5d|%s^7%^;1;;line 5: template fault: NotEnoughArgs^
-rewrite;u64^%d%%^printf^%#06x^7%^;0;0x0007^;
-rewrite;u64 u64^%d-%d^printf^%d^1-2^;1;;line 5: template fault: TooManyArgs^
-rewrite;u64 u64^%d-%d^printf^%s %d^1-2^;1;;line 5: template fault: WrongType^
-rewrite;u64^%.2i^printf^%%%d%%^9^;0;%9%^;
-rewrite;u64 u64^%u%%%u^printf^%*d|^3%5^;0;  5|^;";
+rewrite~u64^%d%%^printf^%5d|%s^7%^~1~~line 5: template fault: NotEnoughArgs^
+rewrite~u64^%d%%^printf^%#06x^7%^~0~0x0007^~
+rewrite~u8 u8^%d-%d^printf^%d^1-2^~1~~line 5: template fault: TooManyArgs^
+rewrite~u8 u8^%d-%d^printf^%d %d %d^1-2^~1~~line 5: template fault: NotEnoughArgs^
+rewrite~u8 u8^%d-%d^printf^%s %d^1-2^~1~~line 5: template fault: WrongType^
+rewrite~u64^%.2i^printf^%%%d%%^9^~0~%9%^~
+rewrite~u8 u64^%u%%%u^printf^%*d|^3%5^~0~  5|^~";
+
+const PLANS: &str = "\
+plan~u32^%-5u|^anything~0~{d}|^~
+plan~word u32 word u64^%s [%08u] %s: %llu bytes^~0~{} [{d}] {}: {d} bytes^~
+plan~i32 i32^%d%+d^~0~{d}{d}^~
+plan~i32 u32^%08x%08x^~0~{8x}{8x}^~
+plan~u8 u8^%#X;%o^~0~0X{x};{d}^~
+plan~word i64^%s%25d^~0~{s}{d}^~
+plan~i8 word^%x:%s.^~0~{x}:{}.^~
+plan~u8 i8^%d%4d^~0~{d}{d}^~
+plan~char u8^%c%4d^~0~{s}{d}^~
+plan~u8 char^%d%2c^~0~{d}{s}^~
+plan~^{%%}^x^~0~{{%}}^~
+plan~u8^%d~0~{d}^~
+plan~~1~~line 1: bad header^
+plan~f64^%d^~1~~line 1: bad header^
+plan~u8^~1~~line 2: bad header^
+plan~u8^%y^~1~~line 2: not a printf format^
+plan~word^%.3s^~1~~line 2: field 1: lossy^";
+
+const SCANS: &str = "\
+scan {d}-{d}~1-2^^x^~0~1\t2^^^~
+scan {d}-{d}~~0~~
+scan {d}-{d}~1-2~0~1\t2^~
+scan {s}{s}~a b^c^~0~a\tb^c^~
+scan {/[a-c]+/}{d}~abc12^~0~abc\t12^~
+scan x~x^y^~0~^^~";
 
 const NO_COMMANDS: &str = "\
-;u64^;2;;usage: reformat rewrite | plan | scan FORMAT | translate strfmt|formatx | sample N^
-rewrite x;u64^;2;;usage: reformat rewrite | plan | scan FORMAT | translate strfmt|formatx | sample N^
-sample 01;u64^;2;;usage: reformat rewrite | plan | scan FORMAT | translate strfmt|formatx | sample N^";
+~u64^~2~~usage: reformat rewrite | plan | scan FORMAT | translate strfmt|formatx | sample N^
+rewrite x~u64^~2~~usage: reformat rewrite | plan | scan FORMAT | translate strfmt|formatx | sample N^
+plan x~u64^~2~~usage: reformat rewrite | plan | scan FORMAT | translate strfmt|formatx | sample N^
+scan~u64^~2~~usage: reformat rewrite | plan | scan FORMAT | translate strfmt|formatx | sample N^
+scan {d} {d}~u64^~2~~usage: reformat rewrite | plan | scan FORMAT | translate strfmt|formatx | sample N^
+sample 01~u64^~2~~usage: reformat rewrite | plan | scan FORMAT | translate strfmt|formatx | sample N^";
 
 #[test]
 fn rewrites_rows(rt: HostRuntime) -> Result<(), Fail> {
-    run_table(&rt, rt.alloc(), ROWS)
+    run_table(&rt, rt.alloc(), ROWS, 4096)
+}
+
+#[test]
+fn reads_every_kind(rt: HostRuntime) -> Result<(), Fail> {
+    run_table(&rt, rt.alloc(), KINDS, 4096)?;
+    run_table(&rt, rt.alloc(), KINDS, 1)
+}
+
+#[test]
+fn reads_fields_that_touch(rt: HostRuntime) -> Result<(), Fail> {
+    run_table(&rt, rt.alloc(), TOUCHING, 1)
+}
+
+#[test]
+fn prints_in_three_dialects(rt: HostRuntime) -> Result<(), Fail> {
+    run_table(&rt, rt.alloc(), DIALECTS, 4096)?;
+    run_table(&rt, rt.alloc(), DIALECTS, 1)
 }
 
 #[test]
 fn judges_headers(rt: HostRuntime) -> Result<(), Fail> {
-    run_table(&rt, rt.alloc(), HEADER_LINES)
+    run_table(&rt, rt.alloc(), HEADER_LINES, 4096)
+}
+
+#[test]
+fn refuses_what_can_not_be_read_back(rt: HostRuntime) -> Result<(), Fail> {
+    run_table(&rt, rt.alloc(), REFUSED_FORMATS, 1)
 }
 
 #[test]
 fn prints_by_any_template(rt: HostRuntime) -> Result<(), Fail> {
-    run_table(&rt, rt.alloc(), TEMPLATES)
+    run_table(&rt, rt.alloc(), TEMPLATES, 4096)
+}
+
+#[test]
+fn plans_formats(rt: HostRuntime) -> Result<(), Fail> {
+    run_table(&rt, rt.alloc(), PLANS, 4096)?;
+    run_table(&rt, rt.alloc(), PLANS, 1)
+}
+
+#[test]
+fn scans_lines(rt: HostRuntime) -> Result<(), Fail> {
+    run_table(&rt, rt.alloc(), SCANS, 4096)?;
+    run_table(&rt, rt.alloc(), SCANS, 1)
 }
 
 #[test]
 fn knows_its_commands(rt: HostRuntime) -> Result<(), Fail> {
-    run_table(&rt, rt.alloc(), NO_COMMANDS)
+    run_table(&rt, rt.alloc(), NO_COMMANDS, 4096)
+}
+
+// The text that is planned for a format scans a row of it.
+#[test]
+fn scans_by_what_it_planned(rt: HostRuntime) -> Result<(), Fail> {
+    let alloc = rt.alloc();
+    let mut errors = sink(alloc, 1)?;
+    let mut input = source(alloc, b"word u32 word u64\n%s [%08u] %s: %llu bytes\n", 7)?;
+    let mut planned = sink(alloc, 7)?;
+    let words = vec![in alloc; String::from_str(alloc, "plan")?]?;
+    let got = run(alloc, &words, &mut input, &mut planned, &mut errors);
+    assert_eq!(rt; got, 0);
+    let format = planned.bytes().strip_suffix(b"\n").ok_or("no line feed")?;
+    let format = String::from_utf8(format.to_vec(alloc)?)
+        .ok()
+        .ok_or("no text")?;
+    let mut input = source(alloc, b"web01 [00000412] GET: 5120 bytes\n", 7)?;
+    let mut output = sink(alloc, 7)?;
+    let words = vec![in alloc; String::from_str(alloc, "scan")?, format]?;
+    let got = run(alloc, &words, &mut input, &mut output, &mut errors);
+    assert_eq!(rt; got, 0);
+    assert_eq!(rt; output.bytes(), b"web01\t00000412\tGET\t5120\n".as_slice());
+    assert_eq!(rt; errors.bytes(), b"".as_slice());
+    Ok(())
+}
+
+// A line that isn't UTF-8 is refused where it is judged, and read where it isn't.
+#[test]
+fn judges_lines_as_text(rt: HostRuntime) -> Result<(), Fail> {
+    let alloc = rt.alloc();
+    for (word, bytes, want, told) in [
+        ("plan", b"u8\n%d\n\xff\n".as_slice(), 0, b"".as_slice()),
+        (
+            "plan",
+            b"u8\n\xff\n".as_slice(),
+            1,
+            b"line 2: not UTF-8\n".as_slice(),
+        ),
+    ] {
+        let mut input = source(alloc, bytes, 2)?;
+        let mut output = sink(alloc, 1)?;
+        let mut errors = sink(alloc, 1)?;
+        let words = vec![in alloc; String::from_str(alloc, word)?]?;
+        let got = run(alloc, &words, &mut input, &mut output, &mut errors);
+        assert_eq!(rt; got, want);
+        assert_eq!(rt; errors.bytes(), told);
+    }
+    Ok(())
 }
 
 #[test]
@@ -82,6 +246,14 @@ fn carries_the_line_of_a_refusal(rt: HostRuntime) -> Result<(), Fail> {
     let got = reformat(alloc, &mut input, &mut output, 100);
     let why = TemplateFault::Printf;
     assert_eq!(rt; got, Err(ReformatError::Template { line: 4, why }));
+    let mut input = source(alloc, b"u8 u8\n%d%d\n", 4096)?;
+    let got = reformat(alloc, &mut input, &mut output, 100);
+    let why = Refused::RunsOn { field: 1 };
+    assert_eq!(rt; got, Err(ReformatError::Refused { line: 2, why }));
+    let mut input = source(alloc, b"u8\n%d\nformatx\n{1}\n9\n", 4096)?;
+    let got = reformat(alloc, &mut input, &mut output, 100);
+    let fault = RenderFault::MissingArgument;
+    assert_eq!(rt; got, Err(ReformatError::Render { line: 5, fault }));
     Ok(())
 }
 

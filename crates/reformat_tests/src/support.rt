@@ -29,7 +29,7 @@ pub(crate) fn source(alloc: Global, bytes: &[u8], piece: usize) -> Result<MemSou
 }
 
 pub(crate) fn sink(alloc: Global, piece: usize) -> Result<MemSink, AllocError> {
-    Ok(MemSink::new(vec![in alloc; 0; 200]?, piece, Vec::new(alloc)))
+    Ok(MemSink::new(vec![in alloc; 0; 400]?, piece, Vec::new(alloc)))
 }
 
 fn words(alloc: Global, text: &str) -> Result<Vec<String>, AllocError> {
@@ -40,16 +40,22 @@ fn words(alloc: Global, text: &str) -> Result<Vec<String>, AllocError> {
     Ok(words)
 }
 
-/// Runs each line of the table: words, input, status, output and message, with `;` between them.
-pub(crate) fn run_table(rt: &impl Abort, alloc: Global, table: &str) -> Result<(), Fail> {
+/// Runs each line of the table: words, input, status, output and message, with `~` between them; the input comes in pieces of
+/// these many bytes.
+pub(crate) fn run_table(
+    rt: &impl Abort,
+    alloc: Global,
+    table: &str,
+    piece: usize,
+) -> Result<(), Fail> {
     for line in table.lines() {
-        let mut parts = line.split(';');
+        let mut parts = line.split('~');
         let words = words(alloc, parts.next().ok_or("no words")?)?;
         let bytes = bytes_of(alloc, parts.next().ok_or("no input")?)?;
         let status = parts.next().ok_or("no status")?;
         let written = bytes_of(alloc, parts.next().ok_or("no output")?)?;
         let told = bytes_of(alloc, parts.next().ok_or("no message")?)?;
-        let mut input = source(alloc, &bytes, 4096)?;
+        let mut input = source(alloc, &bytes, piece)?;
         let mut output = sink(alloc, 1)?;
         let mut errors = sink(alloc, 3)?;
         let got = run(alloc, &words, &mut input, &mut output, &mut errors);

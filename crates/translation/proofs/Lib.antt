@@ -2,3 +2,9 @@ pub mod Written
 pub mod Numerals
 pub mod Braces
 pub mod Steps
+pub mod Decimals
+pub mod Body
+pub mod FormatxRead
+pub mod FormatxSegments
+pub mod Glyphs
+pub mod FormatxRows

@@ -1,0 +1,4 @@
+pub mod Decimals
+pub mod ClearHeaders
+pub mod KindWords
+pub mod MessageLemmas

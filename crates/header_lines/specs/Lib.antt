@@ -1,0 +1,4 @@
+pub mod Headers
+pub mod Read
+pub mod Message
+pub mod Laws

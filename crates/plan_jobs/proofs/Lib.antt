@@ -1,0 +1,3 @@
+mod NoMemory
+mod Joining
+mod Tokens

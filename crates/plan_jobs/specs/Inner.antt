@@ -1,0 +1,4 @@
+-- What only private calls and proofs cite.
+pub mod State
+pub mod PlanClear
+pub mod ScanClear

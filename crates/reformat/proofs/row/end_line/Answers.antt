@@ -1,8 +1,0 @@
-use Rattle.std.proofs.Common.{◌≡◌, List, ℕ, string_bytes, IsCharBoundary, sym, subst, rules}
-use Rattle.reformat.proofs.row.end_line.Goals as goal
-
-pub truncate-requires : goal.truncate-requires
-truncate-requires c = λ le.
-    let same : string_bytes c.push_str.new.self ≡ string_bytes c.args.out.now = search rules in
-    let boundary : IsCharBoundary (string_bytes c.push_str.new.self) c.args.before = subst (λ (t : List ℕ). IsCharBoundary t c.args.before) (sym same) c.requires in
-    (boundary.0, λ _. boundary.1)
