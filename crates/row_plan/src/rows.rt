@@ -1,5 +1,5 @@
 // A plan, and the rows that it reads.
-ghost use Rattle.std.specs.Prelude.{◌≡◌, length, IsTrue, IfOk, IfErr, OnOk};
+ghost use Rattle.std.specs.Prelude.{◌≡◌, ◌↔◌, length, IsTrue, IfOk, IfErr, OnOk};
 ghost use Rattle.std.specs.Str.{chars};
 ghost use Rattle.row_format.specs.Columns.{columns_of};
 ghost use Rattle.row_format.specs.Plannable.{IsPlannable};
@@ -60,6 +60,12 @@ fn is_too_short(fields: &[RowField], line: &str) -> bool
         }
     }
     false
+}
+
+fn is_same(text: &str, line: &str) -> bool
+    ensures { IsTrue result ↔ (text.now ≡ line.now) }
+{
+    text == line
 }
 
 /// Plans the rows of a format, with one kind for each of its fields. It is refused exactly where the format can't be read back.
@@ -140,7 +146,7 @@ impl RowPlan {
         let mut tokens = format.scan_slices(alloc, line)?;
         let values = read_tokens(alloc, &mut tokens, fields, &self.kinds)?;
         print_row(alloc, again, &self.format, &values)?;
-        if again.as_str() != line {
+        if !is_same(again.as_str(), line) {
             return Err(RowError::NotARow);
         }
         Ok(values)
