@@ -1,3 +1,4 @@
 mod NoMemory
 mod Joining
 mod Tokens
+mod WrittenLemmas

@@ -1,3 +1,4 @@
 pub mod Plan
 pub mod Scan
+pub mod Written
 pub mod Inner

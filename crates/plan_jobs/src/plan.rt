@@ -5,6 +5,7 @@ ghost use Rattle.line_job.specs.Refusal.{IfRefused};
 ghost use Rattle.line_job.specs.Told.{RunsTold};
 ghost use Rattle.header_lines.specs.Message.{cause_message};
 ghost use Rattle.plan_jobs.specs.Plan.{PlanStage, kinds_next, plan_rules, judges, Keeps, Refuses};
+ghost use Rattle.plan_jobs.specs.Written.{PlansAll};
 ghost use Rattle.plan_jobs.specs.Inner.State.{stage_of};
 ghost use Rattle.plan_jobs.specs.Inner.PlanClear.{plan_clear};
 
@@ -105,7 +106,13 @@ pub fn run_plan<S: Source, K: Sink, E: Sink>(
     errors: &mut E,
     limit: u64,
 ) -> u8
+    // Status 0: all was read, and the planned text of the first two lines was written.
+    ensures planned { result ≡ 0 → PlansAll (source_seen S.supply input.old input.new) (sink_seen K.held K.faults output.old output.new) }
+
+    // Every status is that of a result of the job, and its message is told.
     ensures told { RunsTold plan_rules kinds_next cause_message limit (source_seen S.supply input.old input.new) (sink_seen K.held K.faults output.old output.new) (sink_seen E.held E.faults errors.old errors.new) result }
+
+    // Success tells nothing.
     ensures quiet { result ≡ 0 → errors.new ≡ errors.old }
 {
     let mut job = Plan {

@@ -6,6 +6,7 @@ ghost use Rattle.line_job.specs.Ends.{Tells, source_seen, sink_seen};
 ghost use Rattle.line_job.specs.Told.{RunsTold};
 ghost use Rattle.header_lines.specs.Message.{cause_message};
 ghost use Rattle.plan_jobs.specs.Scan.{ScanStage, scan_rules, tab_joined};
+ghost use Rattle.plan_jobs.specs.Written.{ScansAll};
 ghost use Rattle.plan_jobs.specs.Inner.ScanClear.{scan_clear};
 
 use crate::push::push_line;
@@ -117,7 +118,13 @@ pub fn run_scan<S: Source, K: Sink, E: Sink>(
     errors: &mut E,
     limit: u64,
 ) -> u8
+    // Status 0: all was read, and the tokens of each line were written.
+    ensures scanned { result ≡ 0 → ScansAll format.now (source_seen S.supply input.old input.new) (sink_seen K.held K.faults output.old output.new) }
+
+    // Every status is that of a result of the job, and its message is told.
     ensures told { RunsTold scan_rules (record { format = format.now }) cause_message limit (source_seen S.supply input.old input.new) (sink_seen K.held K.faults output.old output.new) (sink_seen E.held E.faults errors.old errors.new) result }
+
+    // Success tells nothing.
     ensures quiet { result ≡ 0 → errors.new ≡ errors.old }
 {
     match Scan::new(alloc, format) {
