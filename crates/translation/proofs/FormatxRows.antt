@@ -16,7 +16,7 @@ use Rattle.translation.specs.Inner.Plans.{decimal_plan, based_plan, text_plan}
 use Rattle.translation.proofs.Written.{not_empty}
 use Rattle.translation.proofs.FormatxRead.{spec_by}
 
-abbrev body : List ℕ → List ℕ → Body
+abbrev pub body : List ℕ → List ℕ → Body
 body sign rest = record { sign = sign; rest = rest }
 
 no_gap : (n : ℕ) → 0 - n ≡ 0

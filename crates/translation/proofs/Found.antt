@@ -7,10 +7,12 @@ use Rattle.numerals.specs.Numeral.{numeral}
 use Rattle.numerals.specs.Laws.{NumeralIsStd}
 use Rattle.sprintf.specs.declared.parser.ConversionSpecifier.{ConversionSpecifier}
 use Rattle.sprintf.specs.declared.parser.ConversionType.{ConversionType}
-use Rattle.sprintf.specs.declared.parser.ConversionType.TheVariants.{DecInt, OctInt, HexIntLower, HexIntUpper}
+use Rattle.sprintf.specs.declared.parser.ConversionType.TheVariants.{DecInt, OctInt, HexIntLower, HexIntUpper, String, Char as CharConversion}
 use Rattle.sprintf.specs.Field.{number_of, prefix_of}
 use Rattle.formatx.specs.Words.{is_plain}
 use Rattle.values.specs.declared.kind.Kind.{Kind}
+use Rattle.values.specs.declared.kind.Kind.TheVariants.{Word, Char}
+use Rattle.values.specs.Datum.{Datum, natural, integer, word, character, IsOfKind}
 use Rattle.row_format.specs.Columns.{width_of}
 use Rattle.row_format.specs.Plannable.{is_signed}
 use Rattle.translation.specs.declared.options.Letters.{Letters}
@@ -20,14 +22,14 @@ use Rattle.translation.specs.declared.row.Row.{Row}
 use Rattle.translation.specs.declared.row.Row.TheVariants.{Unpadded, ToLeft, ByZeros, ToRight}
 use Rattle.translation.specs.declared.target.Target.{Target}
 use Rattle.translation.specs.declared.target.Target.TheVariants.{Strfmt, Formatx}
-use Rattle.translation.specs.Table.{row_by, row_of, prefix_in, sign_in, least_length, has_space, in_braces, decimal_field, decimal_options, lettered_field, width_text}
-use Rattle.translation.specs.Inner.Options.{written, plus_text, letters_text}
+use Rattle.translation.specs.Table.{row_by, row_of, prefix_in, sign_in, least_length, has_space, in_braces, decimal_field, decimal_options, lettered_field, width_text, is_decimal, based_field, text_options, suits, field_by, goes_with, translated_field}
+use Rattle.translation.specs.Inner.Options.{written, plus_text, letters_text, precision_text as point_text}
 use Rattle.translation.specs.Inner.Plans.{decimal_plan, based_plan, text_plan, cutting}
 use Rattle.translation.proofs.Body.{IsBody, IsPrecision}
 use Rattle.translation.proofs.Decimals.{Writes, writes}
 use Rattle.translation.proofs.Numerals.{HasFirst, numeral_first}
 use Rattle.translation.proofs.Values.{lead}
-use Rattle.translation.proofs.Written.{decimal_written, based_written, prefixed}
+use Rattle.translation.proofs.Written.{decimal_written, based_written, prefixed, text_written}
 
 pub some_same : {A : Type 0} (x y : A) → (let o : Option A = Some x in o) ≡ Some y → x ≡ y
 some_same x y e = cc
@@ -138,7 +140,7 @@ based_keeps target ToRight letters p w = by_test (p == 0)
     by_test false = tt
 
 -- prefixes have no braces
-pub AllPlain : List ℕ → Type 0
+abbrev pub AllPlain : List ℕ → Type 0
 AllPlain bs = AllByRecursion (λ b. is_plain b ≡ true) bs
 
 -- a decimal field of the table
@@ -165,7 +167,7 @@ decimal_found_of target i f kind w t conversion width e =
     let plus : Bool = is_signed kind && f.force_sign in
     let wide_is : width_of f ≡ w = rw width refl in
     let sign : plus_text plus ≡ sign_in f kind = rw conversion (plus_sign (is_signed kind) f.force_sign) in
-    let least : least_length f kind ≡ 1 + length (plus_text plus) = rw (sign, conversion, no_prefix f.alt_form) ? in
+    let least : least_length f kind ≡ 1 + length (plus_text plus) = rw (sign, conversion, no_prefix f.alt_form) refl in
     let row : Row = row_by (nat_le w (least_length f kind)) f.left_adj f.zero_pad in
     let passed = else_some (has_space f kind) _ t e in
     let all : option_map (written target) (decimal_plan target row plus w) ≡ decimal_options target row (plus_text plus) (numeral 10 false w) = decimal_written target row plus w in
@@ -173,3 +175,80 @@ decimal_found_of target i f kind w t conversion width e =
     let braced = map_some (in_braces i) (decimal_options target row (plus_text plus) (numeral 10 false w)) t given in
     let o = map_some (written target) (decimal_plan target row plus w) braced.0 (all ∙ braced.1) in
     record { plus = plus; plus_is = refl; least = least; space = passed.0; o = o.0; plan = o.1; text = sym (ap (in_braces i) o.2 ∙ braced.2) }
+
+-- a field in base 8 or 16
+pub record BasedFound (target : Target) (i : ℕ) (f : ConversionSpecifier) (kind : Kind) (letters : Letters) (w : ℕ) (t : List ℕ) : Type 0 where
+  pub least : least_length f kind ≡ 1 + length (prefix_in f)
+  pub plain : AllPlain (prefix_in f)
+  pub o : Options
+  pub plan : based_plan target (row_by (nat_le w (least_length f kind)) f.left_adj f.zero_pad) letters (length (prefix_in f)) w ≡ Some o
+  pub text : t ≡ prefix_in f ++ in_braces i (written target o)
+
+plain_prefix : (alt : Bool) (conversion : ConversionType) → AllPlain (if alt then prefix_of conversion else [])
+plain_prefix false conversion = tt
+plain_prefix true OctInt = (refl, tt)
+plain_prefix true HexIntLower = (refl, (refl, tt))
+plain_prefix true HexIntUpper = (refl, (refl, tt))
+plain_prefix true _ = tt
+
+pub based_found_of : (target : Target) (i : ℕ) (f : ConversionSpecifier) (kind : Kind) (letters : Letters) (w : ℕ) (t : List ℕ) → is_decimal f.conversion_type ≡ false → number_of f.width ≡ Some w → lettered_field target i f kind (letters_text target letters) ≡ Some t
+    → BasedFound target i f kind letters w t
+based_found_of target i f kind letters w t conversion width e =
+    let p : List ℕ = prefix_in f in
+    let wide_is : width_of f ≡ w = rw width refl in
+    let sign : sign_in f kind ≡ [] = rw conversion refl in
+    let least : least_length f kind ≡ 1 + length p = rw sign (omega arith) in
+    let row : Row = row_by (nat_le w (least_length f kind)) f.left_adj f.zero_pad in
+    let all : option_map (prefixed target i p) (based_plan target row letters (length p) w) ≡ based_field target row i (letters_text target letters) p (numeral 10 false w) (numeral 10 false (w - length p)) = based_written target row letters p w i in
+    let given : based_field target row i (letters_text target letters) p (numeral 10 false w) (numeral 10 false (w - length p)) ≡ Some t =
+        subst (λ (n : ℕ). based_field target (row_by (nat_le n (least_length f kind)) f.left_adj f.zero_pad) i (letters_text target letters) p (numeral 10 false n) (numeral 10 false (n - length p)) ≡ Some t) wide_is e in
+    let o = map_some (prefixed target i p) (based_plan target row letters (length p) w) t (all ∙ given) in
+    record { least = least; plain = plain_prefix f.alt_form f.conversion_type; o = o.0; plan = o.1; text = sym o.2 }
+
+-- a word or a character
+pub text_found_of : (target : Target) (i least : ℕ) (f : ConversionSpecifier) (w : ℕ) (q : Option ℕ) (cutting_text t : List ℕ) → number_of f.width ≡ Some w → point_text q ≡ cutting_text
+    → (let r : Option (List ℕ) = Some (in_braces i (text_options (row_of least f) (width_text f) cutting_text)) in r) ≡ Some t
+    → t ≡ in_braces i (written target (text_plan (row_by (nat_le w least) f.left_adj f.zero_pad) w q))
+text_found_of target i least f w q cutting_text t width cuts e =
+    let wide_is : width_of f ≡ w = rw width refl in
+    let row : Row = row_by (nat_le w least) f.left_adj f.zero_pad in
+    let same : in_braces i (text_options (row_of least f) (width_text f) cutting_text) ≡ t = some_same _ t e in
+    let here : in_braces i (text_options row (numeral 10 false w) cutting_text) ≡ t = subst (λ (n : ℕ). in_braces i (text_options (row_by (nat_le n least) f.left_adj f.zero_pad) (numeral 10 false n) cutting_text) ≡ t) wide_is same in
+    sym (ap (in_braces i) (text_written target row w q ∙ ap (text_options row (numeral 10 false w)) cuts) ∙ here)
+
+pub is_word : (kind : Kind) (value : Datum) → suits String kind ≡ true → IsOfKind kind value → (text : List ℕ) × (kind ≡ Word) × (value ≡ word text)
+is_word Word (word text) k h = (text, refl, refl)
+is_word Word (natural n) k h = absurd h
+is_word Word (integer n) k h = absurd h
+is_word Word (character n) k h = absurd h
+is_word _ value k h = absurd cc
+
+pub is_character : (kind : Kind) (value : Datum) → suits CharConversion kind ≡ true → IsOfKind kind value → (c : ℕ) × (kind ≡ Char) × (value ≡ character c)
+is_character Char (character c) k h = (c, refl, refl)
+is_character Char (natural n) k h = absurd h
+is_character Char (integer n) k h = absurd h
+is_character Char (word n) k h = absurd h
+is_character _ value k h = absurd cc
+
+-- a field that is translated goes with its kind
+pub record Given (target : Target) (i : ℕ) (f : ConversionSpecifier) (kind : Kind) (t : List ℕ) : Type 0 where
+  pub w : ℕ
+  pub q : ℕ
+  pub suit : suits f.conversion_type kind ≡ true
+  pub width : number_of f.width ≡ Some w
+  pub precision : number_of f.precision ≡ Some q
+  pub field : field_by f.conversion_type target i f kind ≡ Some t
+
+pub given : (target : Target) (i : ℕ) (f : ConversionSpecifier) (kind : Kind) (t : List ℕ) → translated_field target i f kind ≡ Some t → Given target i f kind t
+given target i f kind t e =
+    let r = then_some (goes_with f kind) _ t e in
+    let all = three_true (suits f.conversion_type kind) (is_some (number_of f.width)) (is_some (number_of f.precision)) r.0 in
+    let w = is_some_value (number_of f.width) all.1 in
+    let q = is_some_value (number_of f.precision) all.2 in
+    record { w = w.0; q = q.0; suit = all.0; width = w.1; precision = q.1; field = r.1 }
+  where
+    three_true : (a b c : Bool) → (a && b && c) ≡ true → (a ≡ true) × (b ≡ true) × (c ≡ true)
+    three_true true true true h = (refl, refl, refl)
+    three_true true true false h = cc
+    three_true true false c h = cc
+    three_true false b c h = cc

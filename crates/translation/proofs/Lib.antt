@@ -9,4 +9,5 @@ pub mod FormatxSegments
 pub mod Glyphs
 pub mod Values
 pub mod Found
+pub mod FormatxFields
 pub mod FormatxRows
