@@ -13,9 +13,10 @@ use Rattle.translation.specs.declared.options.Options.{Options}
 use Rattle.translation.specs.declared.target.Target.TheVariants.{Formatx}
 use Rattle.translation.specs.Table.{row_by}
 use Rattle.translation.specs.Inner.Plans.{decimal_plan, based_plan, text_plan}
+use Rattle.translation.proofs.Written.{not_empty}
 use Rattle.translation.proofs.FormatxRead.{spec_by}
 
-abbrev body : List ℕ → List ℕ → Body
+abbrev pub body : List ℕ → List ℕ → Body
 body sign rest = record { sign = sign; rest = rest }
 
 no_gap : (n : ℕ) → 0 - n ≡ 0
@@ -55,4 +56,26 @@ based_rows f letters w p d false false true m z few ascii =
 based_rows f letters w [] d false false false m z few ascii =
     let room = fills (w - (0 + length d)) 32 in
     rw (ascii, m, z, append-nil room, append-nil room) (append-nil (room ++ d))
-based_rows f letters w (c ∷ p) d false false false m z few ascii = ?
+based_rows f letters w (c ∷ p) d false false false m z few ascii = rw (not_empty c p) tt
+
+-- words and characters
+word_gap : (w n : ℕ) → w - (0 + n) ≡ w - n
+word_gap w n = omega arith
+
+unfilled_word : (f : ConversionSpecifier) (room : ℕ) (word : List ℕ) (minus : Bool) → f.left_adj ≡ minus → room ≡ 0 → filled_word f room word ≡ word
+unfilled_word f room word true m e = rw (m, e) (append-nil word)
+unfilled_word f room word false m e = rw (m, e) refl
+
+pub text_rows : (f : ConversionSpecifier) (w : ℕ) (q : Option ℕ) (word : List ℕ) (narrow minus zeros : Bool) → f.left_adj ≡ minus → (narrow ≡ true → w ≤ length word) → chars word ≡ word
+    → let o = text_plan (row_by narrow minus zeros) w q in padded (spec_by o) Text o.width (body [] word) ≡ filled_word f (w - length word) word
+text_rows f w q word true minus zeros m few ascii =
+    let low : w ≤ length word = few refl in
+    let room : w - length word ≡ 0 = omega arith in
+    rw (no_gap (0 + length (chars word)), unfilled_word f (w - length word) word minus m room) (append-nil word)
+text_rows f w q word false true zeros m few ascii = rw (ascii, m, word_gap w (length word)) refl
+text_rows f w q word false false true m few ascii =
+    let room = fills (w - length word) 32 in
+    rw (ascii, m, word_gap w (length word), append-nil room, append-nil room) (append-nil (room ++ word))
+text_rows f w q word false false false m few ascii =
+    let room = fills (w - length word) 32 in
+    rw (ascii, m, word_gap w (length word), append-nil room, append-nil room) (append-nil (room ++ word))

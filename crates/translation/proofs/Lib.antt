@@ -7,4 +7,7 @@ pub mod Body
 pub mod FormatxRead
 pub mod FormatxSegments
 pub mod Glyphs
+pub mod Values
+pub mod Found
+pub mod FormatxFields
 pub mod FormatxRows
