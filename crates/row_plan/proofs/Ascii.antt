@@ -1,16 +1,16 @@
 -- What reads to a number is ASCII, so it is the same as bytes and as characters.
-use Rattle.std.proofs.Common.{◌≡◌, ◌<◌, ◌≤◌, ℕ, zero, suc, Bool, true, false, cond, eqb, ◌==◌, List, [], ◌∷◌, length, drop, map, slice_index, Option, Some, None, refl, ap, sym, subst, ◌∙◌, arith}
+use Rattle.std.proofs.Common.{◌≡◌, ◌<◌, ◌≤◌, ℕ, zero, suc, Bool, true, false, cond, ◌==◌, List, [], ◌∷◌, drop, map, Option, Some, None, refl, sym, subst, ◌∙◌, arith}
 use Rattle.std.specs.Char.{digit_value}
 use Rattle.std.specs.List.{AllByRecursion}
-use Rattle.std.specs.Str.{chars, IsUtf8, IsAscii, encode_utf8_all}
-use Rattle.std.specs.Str.Parse.{AllDigits, IsNumeral, without_leading_plus, without_leading_sign}
+use Rattle.std.specs.Str.{chars, IsUtf8, IsAscii}
+use Rattle.std.specs.Str.Parse.{AllDigits, without_leading_plus, without_leading_sign}
 use Rattle.std.proofs.lemmas.Bool.{eqb-true}
 use Rattle.std.proofs.lemmas.Bool.Decides.{nat_tests}
 use Rattle.std.proofs.lemmas.Str.{chars-IsAscii, encodes-chars, encodes-IsAscii}
-use Rattle.numerals.specs.Numeral.{AllBelow, IsDigitText}
+use Rattle.numerals.specs.Numeral.{AllBelow}
 use Rattle.values.specs.declared.kind.Kind.{Kind}
 use Rattle.values.specs.declared.value.Value.{Value}
-use Rattle.values.specs.Datum.{Datum, natural, integer, word, character, kind_of, datum_of, IsOfKind}
+use Rattle.values.specs.Datum.{Datum, natural, integer, datum_of}
 use Rattle.row_format.specs.Row.{ReadsDecimal, StandsFor}
 use Rattle.row_plan.specs.Inner.Reading.{Finds}
 

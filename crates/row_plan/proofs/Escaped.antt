@@ -1,7 +1,6 @@
 -- Literal text with its braces doubled, character by character.
-use Rattle.std.proofs.Common.{◌≡◌, ◌≢◌, ◌≤◌, ◌+◌, ◌/◌, ◌%◌, ℕ, Bool, true, false, cond, eqb, nat_lt, List, [], ◌∷◌, ◌++◌, encode_utf8, refl, ap, arith}
+use Rattle.std.proofs.Common.{◌≡◌, ◌≢◌, ◌≤◌, ◌+◌, ◌/◌, ◌%◌, ℕ, Bool, true, false, cond, List, [], ◌∷◌, encode_utf8, refl, arith}
 use Rattle.std.specs.List.{AllByRecursion}
-use Rattle.std.proofs.lemmas.Bool.{eqb-false}
 use Rattle.std.proofs.lemmas.Bool.Decides.{nat_tests}
 use lib.Dec.{ltb}
 use lib.Utf8.{encode, next}
@@ -30,12 +29,12 @@ plain_encode c h =
     elim (ltb c 128) as (λ (b : Bool). AllByRecursion IsPlain (cond b (c ∷ []) (cond (ltb c 2048) ((192 + c / 64) ∷ next c ∷ []) (cond (ltb c 65536) ((224 + c / 4096) ∷ next (c / 64) ∷ next c ∷ []) ((240 + c / 262144) ∷ next (c / 4096) ∷ next (c / 64) ∷ next c ∷ []))))) [
       | true ↦ (h, tt)
       | false ↦ elim (ltb c 2048) as (λ (b : Bool). AllByRecursion IsPlain (cond b ((192 + c / 64) ∷ next c ∷ []) (cond (ltb c 65536) ((224 + c / 4096) ∷ next (c / 64) ∷ next c ∷ []) ((240 + c / 262144) ∷ next (c / 4096) ∷ next (c / 64) ∷ next c ∷ [])))) [
-          | true ↦ (lead 192 (c / 64) (omega arith), (tail c, tt))
-          | false ↦ elim (ltb c 65536) as (λ (b : Bool). AllByRecursion IsPlain (cond b ((224 + c / 4096) ∷ next (c / 64) ∷ next c ∷ []) ((240 + c / 262144) ∷ next (c / 4096) ∷ next (c / 64) ∷ next c ∷ []))) [
-              | true ↦ (lead 224 (c / 4096) (omega arith), (tail (c / 64), (tail c, tt)))
-              | false ↦ (lead 240 (c / 262144) (omega arith), (tail (c / 4096), (tail (c / 64), (tail c, tt))))
-            ]
+        | true ↦ (lead 192 (c / 64) (omega arith), (tail c, tt))
+        | false ↦ elim (ltb c 65536) as (λ (b : Bool). AllByRecursion IsPlain (cond b ((224 + c / 4096) ∷ next (c / 64) ∷ next c ∷ []) ((240 + c / 262144) ∷ next (c / 4096) ∷ next (c / 64) ∷ next c ∷ []))) [
+          | true ↦ (lead 224 (c / 4096) (omega arith), (tail (c / 64), (tail c, tt)))
+          | false ↦ (lead 240 (c / 262144) (omega arith), (tail (c / 4096), (tail (c / 64), (tail c, tt))))
         ]
+      ]
     ]
 
 -- a character that is no brace stands for itself

@@ -1,17 +1,16 @@
 -- What the tokens of a line say of the lists of values whose row it is.
-use Rattle.std.proofs.Common.{◌≡◌, ◌≢◌, ◌≤◌, ◌<◌, ◌+◌, ℕ, Bool, true, false, List, [], ◌∷◌, ◌++◌, length, map, drop, refl, ap, sym, subst, ◌∙◌, arith, length-append}
+use Rattle.std.proofs.Common.{◌≡◌, ◌≢◌, ◌≤◌, ◌<◌, ◌+◌, ℕ, List, [], ◌∷◌, ◌++◌, length, map, refl, ap, sym, subst, ◌∙◌, arith, length-append}
 use Rattle.std.specs.Str.{chars}
 use Rattle.scan_fmt.specs.Scanned.{Token, ScannedTexts}
 use Rattle.scan_fmt.specs.Slices.{piece_text, ArePieces, ScannedPieces, Sliced, slices_left}
 use Rattle.scan_fmt.specs.declared.slices.Piece.{Piece}
-use Rattle.sprintf.specs.declared.parser.NumericParam.TheVariants.{FromArgument}
 use Rattle.values.specs.declared.kind.Kind.{Kind}
 use Rattle.values.specs.declared.value.Value.{Value}
 use Rattle.values.specs.Datum.{Datum, kind_of, datum_of}
-use Rattle.row_format.specs.Columns.{Column, Columns, columns_text, row_text, field_text, width_of}
+use Rattle.row_format.specs.Columns.{Column, columns_text, row_text, field_text, width_of}
 use Rattle.row_format.specs.Fit.{AreFit}
 use Rattle.row_format.specs.Laws.{IsText, ReadsBack, HasOneList, ReadsToOneList}
-use Rattle.row_format.specs.Plannable.{IsPlannable, IsPaired, IsUnpaired, Never}
+use Rattle.row_format.specs.Plannable.{IsPlannable, IsUnpaired, Never}
 use Rattle.row_format.specs.Planned.{planned_text}
 use Rattle.row_format.specs.Row.{IsRow, EachReads}
 use Rattle.row_plan.specs.declared.error.RowError.{RowError}

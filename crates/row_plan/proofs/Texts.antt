@@ -1,10 +1,10 @@
 -- Words among tokens.
-use Rattle.std.proofs.Common.{◌≡◌, ℕ, List, refl, ap, sym, subst, ◌∙◌}
+use Rattle.std.proofs.Common.{◌≡◌, ℕ, List, ap, sym, subst, ◌∙◌}
 use Rattle.std.specs.Str.{chars, IsUtf8, encode_utf8_all}
 use Rattle.std.proofs.lemmas.Str.{encodes-chars}
 use Rattle.std.proofs.Common.{Option}
 use Rattle.values.specs.declared.kind.Kind.TheVariants.{Word}
-use Rattle.values.specs.Datum.{Datum, natural, integer, word, character, IsOfKind}
+use Rattle.values.specs.Datum.{natural, integer, word, character}
 use Rattle.row_format.specs.Fit.{MayStandBefore}
 use Rattle.row_format.specs.Row.{IsTextOf}
 use Rattle.row_plan.specs.Inner.Reading.{NoneIs}

@@ -1,6 +1,5 @@
 -- The text of a field is at least as long as its width.
-use Rattle.std.proofs.Common.{◌≡◌, ◌≢◌, ℕ, zero, suc, ◌+◌, ◌-◌, ◌≤◌, Bool, true, false, cond, ℤ, pos, negsuc, List, [], ◌++◌, length, Option, Some, None, Result, Ok, Err, encode_utf8, unsigned_abs, unwrap_or, refl, arith, length-append}
-use Rattle.std.specs.Int.{w8, w16, w32, w64, cast_unsigned}
+use Rattle.std.proofs.Common.{◌≡◌, ◌≢◌, ℕ, zero, suc, ◌+◌, ◌-◌, ◌≤◌, Bool, true, false, cond, ℤ, pos, negsuc, List, ◌++◌, length, Some, Result, encode_utf8, refl, arith, length-append}
 use Rattle.std.proofs.lemmas.Str.{length-encode}
 use Rattle.padding.specs.Field.{fills}
 use Rattle.sprintf.specs.declared.PrintfError.{PrintfError}
@@ -9,7 +8,7 @@ use Rattle.sprintf.specs.declared.parser.ConversionType.{ConversionType}
 use Rattle.sprintf.specs.declared.parser.ConversionType.TheVariants.{DecInt, OctInt, HexIntLower, HexIntUpper, Char as CharConversion, String}
 use Rattle.sprintf.specs.declared.parser.NumericParam.{NumericParam}
 use Rattle.sprintf.specs.declared.parser.NumericParam.TheVariants.{Literal, FromArgument}
-use Rattle.sprintf.specs.Field.{filled_number, filled_word, number_of, number_text, unsigned_text, signed_text, character_text, word_text, digits_of, cut_to}
+use Rattle.sprintf.specs.Field.{filled_number, filled_word, number_of, number_text, signed_text, character_text, word_text, digits_of, cut_to}
 use Rattle.sprintf.specs.Meaning.{by_conversion}
 use Rattle.values.specs.declared.kind.Kind.{Kind}
 use Rattle.values.specs.declared.kind.Kind.TheVariants.{U8, U16, U32, U64, Usize, I8, I16, I32, I64, Isize, Word, Char}

@@ -48,12 +48,7 @@ fn push_escaped(out: &mut String, text: &str) -> Result<(), NoMemory>
 }
 
 /// A number's field, with its width where it is exact.
-fn push_number(
-    out: &mut String,
-    exact: bool,
-    width: usize,
-    letter: &str,
-) -> Result<(), NoMemory>
+fn push_number(out: &mut String, exact: bool, width: usize, letter: &str) -> Result<(), NoMemory>
     ensures { OnOk result (string_bytes out.new ≡ string_bytes out.old ++ number_field exact width letter.now) }
 {
     push(out, "{")?;
@@ -65,12 +60,7 @@ fn push_number(
 }
 
 /// A hexadecimal field with uppercase digits; a scan passes no `0X`, so that is literal text.
-fn push_upper(
-    out: &mut String,
-    alternate: bool,
-    exact: bool,
-    width: usize,
-) -> Result<(), NoMemory>
+fn push_upper(out: &mut String, alternate: bool, exact: bool, width: usize) -> Result<(), NoMemory>
     ensures { OnOk result (string_bytes out.new ≡ string_bytes out.old ++ upper_field alternate exact width) }
 {
     if !alternate {
@@ -125,11 +115,7 @@ fn push_columns(out: &mut String, fields: &[RowField], kinds: &[Kind]) -> Result
 }
 
 /// The scanning format of a format.
-pub fn planned_text(
-    alloc: Global,
-    format: &RowFormat,
-    kinds: &[Kind],
-) -> Result<String, NoMemory>
+pub fn planned_text(alloc: Global, format: &RowFormat, kinds: &[Kind]) -> Result<String, NoMemory>
     ensures { IfOk result (λ text. string_bytes text ≡ planned_text format.now kinds.now) }
 {
     let mut out = String::new(alloc);

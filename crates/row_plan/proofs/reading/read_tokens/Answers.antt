@@ -1,11 +1,11 @@
 use denote.Bor.{Bor}
-use Rattle.std.proofs.Common.{◌≡◌, ◌<◌, ◌++◌, ℕ, Bool, false, List, [], ◌∷◌, length, map, arith, sym, refl, ap, subst, Option, None, Some}
+use Rattle.std.proofs.Common.{◌≡◌, ◌<◌, ℕ, false, List, [], ◌∷◌, length, map, arith, refl, ap, subst, Option, None, Some}
 use Rattle.std.specs.Option.{is_some}
 use Rattle.std.specs.Str.{chars}
 use Rattle.std.proofs.lemmas.List.{append-nil}
 use Rattle.scan_fmt.specs.Slices.{Sliced, NextSlice, slices_left}
 use Rattle.values.specs.declared.kind.Kind.{Kind}
-use Rattle.values.specs.Datum.{Datum, datum_of}
+use Rattle.values.specs.Datum.{datum_of}
 use Rattle.row_format.specs.Columns.{Column}
 use Rattle.row_plan.specs.Inner.Reading.{EachFits}
 use Rattle.row_plan.proofs.reading.read_tokens.Goals as goal

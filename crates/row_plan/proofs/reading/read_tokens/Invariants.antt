@@ -1,4 +1,4 @@
-use Rattle.std.proofs.Common.{◌≡◌, ◌++◌, ◌∷◌, List, ℕ, length, map}
+use Rattle.std.proofs.Common.{◌≡◌, ◌++◌, List, length, map}
 use Rattle.std.specs.Str.{chars}
 use Rattle.scan_fmt.specs.Slices.{slices_left}
 use Rattle.values.specs.Datum.{Datum, kind_of, datum_of}

@@ -1,6 +1,5 @@
-use Rattle.std.proofs.Common.{arith, ◌≡◌, ◌≢◌, ◌++◌, List, ℕ, encode_utf8, string_bytes, ap, sym, ◌∙◌}
+use Rattle.std.proofs.Common.{arith}
 use Rattle.std.proofs.lemmas.Grind.{common_steps}
-use Rattle.row_format.specs.Planned.{escaped}
 use Rattle.row_plan.proofs.Escaped.{escaped_same}
 use Rattle.row_plan.proofs.text.push_character.Goals as goal
 

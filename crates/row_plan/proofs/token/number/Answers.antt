@@ -1,4 +1,4 @@
-use Rattle.std.proofs.Common.{◌≤◌, arith}
+use Rattle.std.proofs.Common.{arith}
 use Rattle.row_format.specs.Row.{ReadsDecimal, StandsFor}
 use Rattle.row_plan.proofs.Ascii.{decimal_ascii, based_ascii, finds_characters}
 use Rattle.row_plan.proofs.token.number.Goals as goal

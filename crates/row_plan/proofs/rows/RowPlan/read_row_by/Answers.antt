@@ -1,9 +1,7 @@
-use Rattle.std.proofs.Common.{◌≡◌, ◌≢◌, List, ℕ, length, map, string_bytes, sym, ap, subst, ◌∙◌, IfErr, IsTrue, Result, Ok, Err, rules}
+use Rattle.std.proofs.Common.{◌≡◌, map, IsTrue, rules}
 use Rattle.std.specs.Str.{chars}
 use Rattle.std.proofs.lemmas.Result.{err_from_is_err_and}
 use Rattle.scan_fmt.specs.Slices.{slices_left}
-use Rattle.values.specs.Datum.{kind_of, datum_of}
-use Rattle.row_format.specs.Columns.{row_text}
 use Rattle.row_plan.specs.Plan.{Planned}
 use Rattle.row_plan.proofs.Lines.{scanned, too_short, IsScanned, IsPrinted, no_list, other_text, is_read}
 use Rattle.row_plan.proofs.rows.RowPlan.read_row_by.Goals as goal
