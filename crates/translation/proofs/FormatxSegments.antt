@@ -114,7 +114,7 @@ module _ (scene : Scene) where
     pub spelled : SpellsTo size segments text []
     pub printed : rendered scene 0 segments ≡ done out
 
-  shows_end : Shows [] []
+  pub shows_end : Shows [] []
   shows_end = record { segments = []; spelled = refl; printed = refl }
 
   -- a new literal of one byte

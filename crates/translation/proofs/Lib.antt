@@ -10,4 +10,6 @@ pub mod Glyphs
 pub mod Values
 pub mod Found
 pub mod FormatxFields
+pub mod Induction
+pub mod FormatxLaw
 pub mod FormatxRows
