@@ -47,7 +47,7 @@ module _ (std : NumeralIsStd) (scene : Scene) where
 
   -- the value stands at its position
   abbrev At : ℕ → Kind → Datum → Type 0
-  At i kind value = (slice_get scene.values i ≡ Some (formatx_meaning kind value)) × (i < 2 ^ 64)
+  At i kind value = (slice_get scene.values i ≡ Some (formatx_meaning kind value)) × (i < 2 ^ 63)
 
   field_in : (i : ℕ) (f : ConversionSpecifier) (kind : Kind) (value : Datum) (t text out : List ℕ) → HasI32 (Format f) → IsOfKind kind value → IsAsciiDatum value → At i kind value → translated_field Formatx i f kind ≡ Some t → G text out → FieldShown G f kind value t text out
   field_in i f kind value t text out small of_kind ascii at e g =
@@ -67,7 +67,7 @@ module _ (std : NumeralIsStd) (scene : Scene) where
   abbrev AllThere : ℕ → List Kind → List Datum → Type 0
   AllThere i kinds values = AllAt G (λ front h. shows_end scene) plain_in opens_in closes_in Formatx At field_in i kinds values
 
-  all_there : (before : List Meaning) (i : ℕ) (kinds : List Kind) (values : List Datum) → AreAsciiOf kinds values → scene.values ≡ before ++ each_of formatx_meaning kinds values → i ≡ length before → i + length kinds < 2 ^ 64 → AllThere i kinds values
+  all_there : (before : List Meaning) (i : ℕ) (kinds : List Kind) (values : List Datum) → AreAsciiOf kinds values → scene.values ≡ before ++ each_of formatx_meaning kinds values → i ≡ length before → i + length kinds < 2 ^ 63 → AllThere i kinds values
   all_there before i [] [] ascii e at few = tt
   all_there before i [] (value ∷ values) ascii e at few = tt
   all_there before i (kind ∷ kinds) [] ascii e at few = tt

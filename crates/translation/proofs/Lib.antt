@@ -12,4 +12,5 @@ pub mod Found
 pub mod FormatxFields
 pub mod Induction
 pub mod FormatxLaw
+pub mod StrfmtRead
 pub mod FormatxRows
