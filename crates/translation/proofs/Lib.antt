@@ -13,4 +13,5 @@ pub mod FormatxFields
 pub mod Induction
 pub mod FormatxLaw
 pub mod StrfmtRead
+pub mod StrfmtPieces
 pub mod FormatxRows
