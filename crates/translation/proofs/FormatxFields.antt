@@ -91,8 +91,8 @@ decimal_case std i f kind value w t conversion width few n d =
     let keeps = from_some (λ (o : Options). (o.letters ≡ NoLetters) × (o.plus ≡ d.plus)) _ d.o d.plan (decimal_keeps Formatx (row_by narrow f.left_adj f.zero_pad) d.plus w) in
     let filled : List ℕ = filled_number f (w - (length (lead d.plus z) + length digits)) (lead d.plus z) digits in
     let rows : padded (spec_by d.o) Integer d.o.width (body (lead d.plus z) digits) ≡ filled =
-        from_some (λ (o : Options). padded (spec_by o) Integer o.width (body (lead d.plus z) digits) ≡ filled) _ d.o d.plan
-        (decimal_rows f d.plus w (lead d.plus z) digits narrow f.left_adj f.zero_pad refl refl fits (numeral_chars 10 (unsigned_abs z) false (omega arith) (omega arith))) in
+    from_some (λ (o : Options). padded (spec_by o) Integer o.width (body (lead d.plus z) digits) ≡ filled) _ d.o d.plan
+    (decimal_rows f d.plus w (lead d.plus z) digits narrow f.left_adj f.zero_pad refl refl fits (numeral_chars 10 (unsigned_abs z) false (omega arith) (omega arith))) in
     let digital : is_digits f.conversion_type ≡ true = rw conversion refl in
     record {
       prefix = [];
@@ -127,8 +127,8 @@ based_case std i f kind value w t letters upper which not_decimal digital digits
     let filled : List ℕ = filled_number f (w - (length p + length digits)) p digits in
     let shown : List ℕ = padded (spec_by d.o) Raw d.o.width (body [] digits) in
     let rows : p ++ shown ≡ filled =
-        from_some (λ (o : Options). p ++ padded (spec_by o) Raw o.width (body [] digits) ≡ filled) _ d.o d.plan
-        (based_rows f letters w p digits narrow f.left_adj f.zero_pad refl refl fits (numeral_chars 16 bits upper (omega arith) (omega arith))) in
+    from_some (λ (o : Options). p ++ padded (spec_by o) Raw o.width (body [] digits) ≡ filled) _ d.o d.plan
+    (based_rows f letters w p digits narrow f.left_adj f.zero_pad refl refl fits (numeral_chars 16 bits upper (omega arith) (omega arith))) in
     record {
       prefix = p;
       o = d.o;

@@ -73,8 +73,7 @@ module _ (std : NumeralIsStd) (scene : Scene) where
   all_there before i (kind ∷ kinds) [] ascii e at few = tt
   all_there before i (kind ∷ kinds) (value ∷ values) ascii e at few =
       let m : Meaning = formatx_meaning kind value in
-      let ms : List Meaning = each_of formatx_meaning kinds values in
-      (
+      let ms : List Meaning = each_of formatx_meaning kinds values in (
         (rw (e, at) (get_seam before m ms), omega arith),
         all_there (before ++ m ∷ []) (i + 1) kinds values ascii.1 (e ∙ sym (append_assoc before (m ∷ []) ms)) (omega (arith, length-append before (m ∷ []))) (omega arith),
       )

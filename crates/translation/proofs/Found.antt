@@ -96,6 +96,7 @@ module _ (std : NumeralIsStd) where
     where
       o : Options
       o = record { side = Rattle.translation.specs.declared.options.Side.TheVariants.Right; plus = false; zero = false; width = Some w; precision = None; letters = letters }
+
       by_test : (b : Bool) → IfSome (if b then Some o else None) IsBody
       by_test true = let low : p < w = some refl in record { width = (omega arith, writes std w few); precision = tt; zero = tt }
       by_test false = tt
@@ -135,6 +136,7 @@ based_keeps target ToRight letters p w = by_test (p == 0)
   where
     o : Options
     o = record { side = Rattle.translation.specs.declared.options.Side.TheVariants.Right; plus = false; zero = false; width = Some w; precision = None; letters = letters }
+
     by_test : (b : Bool) → IfSome (if b then Some o else None) (λ o. o.letters ≡ letters)
     by_test true = refl
     by_test false = tt
@@ -201,7 +203,7 @@ based_found_of target i f kind letters w t conversion width e =
     let row : Row = row_by (nat_le w (least_length f kind)) f.left_adj f.zero_pad in
     let all : option_map (prefixed target i p) (based_plan target row letters (length p) w) ≡ based_field target row i (letters_text target letters) p (numeral 10 false w) (numeral 10 false (w - length p)) = based_written target row letters p w i in
     let given : based_field target row i (letters_text target letters) p (numeral 10 false w) (numeral 10 false (w - length p)) ≡ Some t =
-        subst (λ (n : ℕ). based_field target (row_by (nat_le n (least_length f kind)) f.left_adj f.zero_pad) i (letters_text target letters) p (numeral 10 false n) (numeral 10 false (n - length p)) ≡ Some t) wide_is e in
+    subst (λ (n : ℕ). based_field target (row_by (nat_le n (least_length f kind)) f.left_adj f.zero_pad) i (letters_text target letters) p (numeral 10 false n) (numeral 10 false (n - length p)) ≡ Some t) wide_is e in
     let o = map_some (prefixed target i p) (based_plan target row letters (length p) w) t (all ∙ given) in
     record { least = least; plain = plain_prefix f.alt_form f.conversion_type; o = o.0; plan = o.1; text = sym o.2 }
 

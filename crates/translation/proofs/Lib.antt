@@ -14,4 +14,6 @@ pub mod Induction
 pub mod FormatxLaw
 pub mod StrfmtRead
 pub mod StrfmtPieces
+pub mod StrfmtFields
+pub mod StrfmtLaw
 pub mod FormatxRows

@@ -104,8 +104,7 @@ is_read : (i : ℕ) (side : Side) (plus : Bool) (w q : Option ℕ) (letters : Le
 is_read i side plus w q letters number s width precision =
     let parts = pattern_parts i (numeral 10 false i) (strfmt_text side plus w q letters) number in
     let cause : first_cause (key_of (inner_of i (strfmt_text side plus w q letters))) (parts_of side plus w q letters) ≡ None =
-        ap (λ (k : List ℕ). first_cause k (parts_of side plus w q letters)) parts.0 ∙ no_cause i (numeral 10 false i) side plus w q letters number width precision in
-    (
+    ap (λ (k : List ℕ). first_cause k (parts_of side plus w q letters)) parts.0 ∙ no_cause i (numeral 10 false i) side plus w q letters number width precision in (
       parts_of side plus w q letters,
       subst (λ (t : List ℕ). IsWritten t (parts_of side plus w q letters)) (sym parts.1) (is_written side plus w q letters s width precision),
       sym (ap (read_as (inner_of i (strfmt_text side plus w q letters)) (spec_at side plus w q letters)) cause),
@@ -163,6 +162,7 @@ module _ (meanings : List ℕ → Option Meaning) where
     where
       no_open : (c : ℕ) → is_plain c ≡ true → (c == 123) ≡ false
       no_open c h = grind (arith, nat_tests)
+
       no_close : (c : ℕ) → is_plain c ≡ true → (c == 125) ≡ false
       no_close c h = grind (arith, nat_tests)
 

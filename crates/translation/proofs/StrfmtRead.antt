@@ -199,7 +199,13 @@ is_written side plus w q letters s width precision =
     let quiet1 : AllQuiet (after_side plus w q letters) = quiet_append (plus_text plus) _ (quiet_plus plus) quiet2 in
     let head2 = head_of (after_plus w q letters) quiet2 in
     let head3 = head_of (after_width q letters) quiet3 in (
-      after_side plus w q letters, after_plus w q letters, after_plus w q letters, after_plus w q letters, after_width q letters, after_width q letters, behind_dot q letters,
+      after_side plus w q letters,
+      after_plus w q letters,
+      after_plus w q letters,
+      after_plus w q letters,
+      after_width q letters,
+      after_width q letters,
+      behind_dot q letters,
       filled side (after_side plus w q letters) s quiet1,
       signed plus w q letters width quiet2,
       (head_not (after_plus w q letters) 35 head2 refl (λ e. absurd (omega arith)), refl),

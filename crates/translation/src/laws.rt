@@ -11,6 +11,13 @@ pub fn formatx_prints_the_same()
     numeral_is_std();
 }
 
+/// A template of strfmt that a printf format is translated to prints what the format prints.
+pub fn strfmt_prints_the_same()
+    ensures { PrintsTheSame Target.Strfmt }
+{
+    numeral_is_std();
+}
+
 /// The table allows just the conversions for a kind that rows allow.
 pub fn suits_is_converts()
     ensures { SuitsIsConverts }
