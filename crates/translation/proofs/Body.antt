@@ -27,7 +27,7 @@ pub quiet_append : (a b : List ℕ) → AllQuiet a → AllQuiet b → AllQuiet (
 quiet_append [] b p q = q
 quiet_append (x ∷ a) b p q = (p.0, quiet_append a b p.1 q)
 
-quiet_digits : (ds : List ℕ) → all_ascii_digits ds ≡ true → AllQuiet ds
+pub quiet_digits : (ds : List ℕ) → all_ascii_digits ds ≡ true → AllQuiet ds
 quiet_digits [] h = tt
 quiet_digits (d ∷ ds) h =
     let here : is_ascii_digit d ≡ true = grind (arith, nat_tests) in

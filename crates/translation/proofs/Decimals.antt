@@ -20,9 +20,9 @@ use Rattle.translation.proofs.Numerals.{HasFirst, numeral_first}
 own : IsNumeralModel (λ ds. all_ascii_digits ds ≡ true) (digits_value 10)
 own = numerals_by_value (λ ds. all_ascii_digits ds ≡ true) tells_all_ascii_digits
 
--- the digits write the number, which fits 64 bits
+-- the digits write the number, which fits an isize
 pub record Writes (n : ℕ) (ds : List ℕ) : Type 0 where
-  pub small : n < 2 ^ 64
+  pub small : n < 2 ^ 63
   pub digits : all_ascii_digits ds ≡ true
   pub value : digits_value 10 ds ≡ n
   pub first : ℕ
@@ -37,20 +37,21 @@ shifted : (ds : List ℕ) → 0 < get_or ds 0 0 → get_or (map (λ d. 48 + d) d
 shifted [] h = absurd (omega arith)
 shifted (d ∷ ds) h = λ e. absurd (omega arith)
 
-pub writes : NumeralIsStd → (n : ℕ) → n < 2 ^ 64 → Writes n (numeral 10 false n)
+pub writes : NumeralIsStd → (n : ℕ) → n < 2 ^ 63 → Writes n (numeral 10 false n)
 writes std n small =
-    let same : numeral 10 false n ≡ decimal n = std 10 n false (omega arith) small in
+    let fits : n < 2 ^ 64 = omega arith in
+    let same : numeral 10 false n ≡ decimal n = std 10 n false (omega arith) fits in
     let f = numeral_first 10 n false in
     record {
       small = small;
-      digits = rw same (digits_decimal own n small);
-      value = rw same (digits_value-decimal own n small);
+      digits = rw same (digits_decimal own n fits);
+      value = rw same (digits_value-decimal own n fits);
       first = f.first;
       others = f.others;
       is = f.is;
       leads = λ some.
           let shift = shifted (digits_of 10 n) (first_digits_of 10 n (omega arith) some) in
-          let at : get_or (numeral 10 false n) 0 0 ≡ get_or (map (λ d. 48 + d) (digits_of 10 n)) 0 0 = ap (λ (t : List ℕ). get_or t 0 0) (same ∙ decimal-digits_of n some small) in
+          let at : get_or (numeral 10 false n) 0 0 ≡ get_or (map (λ d. 48 + d) (digits_of 10 n)) 0 0 = ap (λ (t : List ℕ). get_or t 0 0) (same ∙ decimal-digits_of n some fits) in
           λ e. shift (sym at ∙ first_of _ f.first f.others f.is ∙ e);
     }
 
@@ -98,5 +99,5 @@ reads_usize n ds w =
     let at : get_or ds 0 0 ≡ w.first = first_of ds w.first w.others w.is in
     let plain : without_leading_plus ds ≡ ds = without_leading_plus_none ds (λ e. let bad : is_ascii_digit 43 ≡ true = subst (λ (b : ℕ). is_ascii_digit b ≡ true) (sym at ∙ e) d in absurd cc) in
     let some : nat_lt 0 (length ds) ≡ true = lt_true 0 (length ds) (rw w.is (omega arith)) in
-    let low : nat_lt n (2 ^ 64) ≡ true = lt_true n (2 ^ 64) w.small in
+    let low : nat_lt n (2 ^ 64) ≡ true = lt_true n (2 ^ 64) (let small = w.small in omega arith) in
     rw (plain, some, digits_pass ds w.digits, w.value, low) refl

@@ -78,7 +78,7 @@ upper_not_octal e = absurd cc
 decimal_shown : (o : Options) (plus : Bool) (z : ℤ) (bits : ℕ) → o.letters ≡ NoLetters → o.plus ≡ plus → field_text (spec_by o) (integer_meaning z bits) o.width o.precision ≡ padded (spec_by o) Integer o.width (body (lead plus z) (numeral 10 false (unsigned_abs z)))
 decimal_shown o plus z bits letters p = rw letters (rw p (ap (padded (spec_by o) Integer o.width) (body_is plus z)))
 
-decimal_case : NumeralIsStd → (i : ℕ) (f : ConversionSpecifier) (kind : Kind) (value : Datum) (w : ℕ) (t : List ℕ) → f.conversion_type ≡ DecInt → number_of f.width ≡ Some w → w < 2 ^ 64 → NumberOf kind value → DecimalFound Formatx i f kind w t → FormatxField i f kind value t
+decimal_case : NumeralIsStd → (i : ℕ) (f : ConversionSpecifier) (kind : Kind) (value : Datum) (w : ℕ) (t : List ℕ) → f.conversion_type ≡ DecInt → number_of f.width ≡ Some w → w < 2 ^ 63 → NumberOf kind value → DecimalFound Formatx i f kind w t → FormatxField i f kind value t
 decimal_case std i f kind value w t conversion width few n d =
     let z : ℤ = n.z in
     let bits : ℕ = n.bits in
@@ -91,8 +91,8 @@ decimal_case std i f kind value w t conversion width few n d =
     let keeps = from_some (λ (o : Options). (o.letters ≡ NoLetters) × (o.plus ≡ d.plus)) _ d.o d.plan (decimal_keeps Formatx (row_by narrow f.left_adj f.zero_pad) d.plus w) in
     let filled : List ℕ = filled_number f (w - (length (lead d.plus z) + length digits)) (lead d.plus z) digits in
     let rows : padded (spec_by d.o) Integer d.o.width (body (lead d.plus z) digits) ≡ filled =
-        from_some (λ (o : Options). padded (spec_by o) Integer o.width (body (lead d.plus z) digits) ≡ filled) _ d.o d.plan
-        (decimal_rows f d.plus w (lead d.plus z) digits narrow f.left_adj f.zero_pad refl refl fits (numeral_chars 10 (unsigned_abs z) false (omega arith) (omega arith))) in
+    from_some (λ (o : Options). padded (spec_by o) Integer o.width (body (lead d.plus z) digits) ≡ filled) _ d.o d.plan
+    (decimal_rows f d.plus w (lead d.plus z) digits narrow f.left_adj f.zero_pad refl refl fits (numeral_chars 10 (unsigned_abs z) false (omega arith) (omega arith))) in
     let digital : is_digits f.conversion_type ≡ true = rw conversion refl in
     record {
       prefix = [];
@@ -113,7 +113,7 @@ based_shown o upper letters z bits e (inl c) = rw (e, c.0, c.1) refl
 based_shown o upper letters z bits e (inr c) = rw (e, c.0, c.1) refl
 
 based_case : NumeralIsStd → (i : ℕ) (f : ConversionSpecifier) (kind : Kind) (value : Datum) (w : ℕ) (t : List ℕ) (letters : Letters) (upper : Bool) → ((letters ≡ LowerHex) × (upper ≡ false)) ⊎ ((letters ≡ UpperHex) × (upper ≡ true))
-    → f.conversion_type ≢ DecInt → is_digits f.conversion_type ≡ true → ((n : ℕ) → digits_of f.conversion_type n ≡ numeral 16 upper n) → number_of f.width ≡ Some w → w < 2 ^ 64 → NumberOf kind value → BasedFound Formatx i f kind letters w t → FormatxField i f kind value t
+    → f.conversion_type ≢ DecInt → is_digits f.conversion_type ≡ true → ((n : ℕ) → digits_of f.conversion_type n ≡ numeral 16 upper n) → number_of f.width ≡ Some w → w < 2 ^ 63 → NumberOf kind value → BasedFound Formatx i f kind letters w t → FormatxField i f kind value t
 based_case std i f kind value w t letters upper which not_decimal digital digits_are width few n d =
     let z : ℤ = n.z in
     let bits : ℕ = n.bits in
@@ -127,8 +127,8 @@ based_case std i f kind value w t letters upper which not_decimal digital digits
     let filled : List ℕ = filled_number f (w - (length p + length digits)) p digits in
     let shown : List ℕ = padded (spec_by d.o) Raw d.o.width (body [] digits) in
     let rows : p ++ shown ≡ filled =
-        from_some (λ (o : Options). p ++ padded (spec_by o) Raw o.width (body [] digits) ≡ filled) _ d.o d.plan
-        (based_rows f letters w p digits narrow f.left_adj f.zero_pad refl refl fits (numeral_chars 16 bits upper (omega arith) (omega arith))) in
+    from_some (λ (o : Options). p ++ padded (spec_by o) Raw o.width (body [] digits) ≡ filled) _ d.o d.plan
+    (based_rows f letters w p digits narrow f.left_adj f.zero_pad refl refl fits (numeral_chars 16 bits upper (omega arith) (omega arith))) in
     record {
       prefix = p;
       o = d.o;
@@ -159,7 +159,7 @@ text_letters ToLeft w q = refl
 text_letters ByZeros w q = refl
 text_letters ToRight w q = refl
 
-word_case : NumeralIsStd → (i : ℕ) (f : ConversionSpecifier) (text : List ℕ) (w q : ℕ) (t : List ℕ) → f.conversion_type ≡ String → number_of f.width ≡ Some w → number_of f.precision ≡ Some q → w < 2 ^ 64 → q < 2 ^ 64 → IsAsciiDatum (word text)
+word_case : NumeralIsStd → (i : ℕ) (f : ConversionSpecifier) (text : List ℕ) (w q : ℕ) (t : List ℕ) → f.conversion_type ≡ String → number_of f.width ≡ Some w → number_of f.precision ≡ Some q → w < 2 ^ 63 → q < 2 ^ 63 → IsAsciiDatum (word text)
     → field_by String Formatx i f Word ≡ Some t → FormatxField i f Word (word text) t
 word_case std i f text w q t conversion width precision few small ascii e =
     let narrow : Bool = nat_le w 0 in
@@ -182,7 +182,7 @@ word_case std i f text w q t conversion width precision few small ascii e =
       field = text_shown row w (cutting q) 34 text ∙ ap (λ (bs : List ℕ). padded (spec_by o) Text o.width (body [] bs)) (cut_formatx q text a ascii.0) ∙ text_rows f w (cutting q) cutted narrow f.left_adj f.zero_pad refl fits chars_are;
     }
 
-character_case : NumeralIsStd → (i : ℕ) (f : ConversionSpecifier) (c w : ℕ) (t : List ℕ) → f.conversion_type ≡ CharConversion → number_of f.width ≡ Some w → w < 2 ^ 64 → c < 128
+character_case : NumeralIsStd → (i : ℕ) (f : ConversionSpecifier) (c w : ℕ) (t : List ℕ) → f.conversion_type ≡ CharConversion → number_of f.width ≡ Some w → w < 2 ^ 63 → c < 128
     → field_by CharConversion Formatx i f Char ≡ Some t → FormatxField i f Char (character c) t
 character_case std i f c w t conversion width few ascii e =
     let narrow : Bool = nat_le w 1 in
@@ -207,7 +207,7 @@ character_case std i f c w t conversion width few ascii e =
     }
 
 -- each field that the table has
-by_type : NumeralIsStd → (c : ConversionType) (i : ℕ) (f : ConversionSpecifier) (kind : Kind) (value : Datum) (w q : ℕ) (t : List ℕ) → f.conversion_type ≡ c → number_of f.width ≡ Some w → number_of f.precision ≡ Some q → w < 2 ^ 64 → q < 2 ^ 64
+by_type : NumeralIsStd → (c : ConversionType) (i : ℕ) (f : ConversionSpecifier) (kind : Kind) (value : Datum) (w q : ℕ) (t : List ℕ) → f.conversion_type ≡ c → number_of f.width ≡ Some w → number_of f.precision ≡ Some q → w < 2 ^ 63 → q < 2 ^ 63
     → suits c kind ≡ true → IsOfKind kind value → IsAsciiDatum value → field_by c Formatx i f kind ≡ Some t → FormatxField i f kind value t
 by_type std DecInt i f kind value w q t c width precision few small suit of_kind ascii e =
     decimal_case std i f kind value w t c width few (number_of_kind kind value suit of_kind) (decimal_found_of Formatx i f kind w t c width e)

@@ -19,7 +19,7 @@ use Rattle.translation.proofs.FormatxRead.{spec_by}
 abbrev pub body : List ℕ → List ℕ → Body
 body sign rest = record { sign = sign; rest = rest }
 
-no_gap : (n : ℕ) → 0 - n ≡ 0
+pub no_gap : (n : ℕ) → 0 - n ≡ 0
 no_gap n = omega arith
 
 -- without room a number is its lead and its digits
@@ -62,7 +62,7 @@ based_rows f letters w (c ∷ p) d false false false m z few ascii = rw (not_emp
 word_gap : (w n : ℕ) → w - (0 + n) ≡ w - n
 word_gap w n = omega arith
 
-unfilled_word : (f : ConversionSpecifier) (room : ℕ) (word : List ℕ) (minus : Bool) → f.left_adj ≡ minus → room ≡ 0 → filled_word f room word ≡ word
+pub unfilled_word : (f : ConversionSpecifier) (room : ℕ) (word : List ℕ) (minus : Bool) → f.left_adj ≡ minus → room ≡ 0 → filled_word f room word ≡ word
 unfilled_word f room word true m e = rw (m, e) (append-nil word)
 unfilled_word f room word false m e = rw (m, e) refl
 

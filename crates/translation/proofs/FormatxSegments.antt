@@ -114,7 +114,7 @@ module _ (scene : Scene) where
     pub spelled : SpellsTo size segments text []
     pub printed : rendered scene 0 segments ≡ done out
 
-  shows_end : Shows [] []
+  pub shows_end : Shows [] []
   shows_end = record { segments = []; spelled = refl; printed = refl }
 
   -- a new literal of one byte
@@ -171,9 +171,9 @@ module _ (scene : Scene) where
       let says : placeholder_text scene 0 p ≡ Ok shown = placed_text scene i o size text rest m octal value in
       let single : is_single 123 text ≡ true = single_brace i (numeral 10 false i) (closing (written Formatx o) rest) w in
       let all : Shows text (shown ++ out) =
-          record {
-            segments = Placed p ∷ h.segments;
-            spelled = (rest, (single, placeholder_read size i o rest body w), h.spelled);
-            printed = rw (says, no_positions i o size text rest) (ap (λ (r : Outcome). record { text = shown ++ r.text; fault = r.fault }) h.printed);
-          } in
+      record {
+        segments = Placed p ∷ h.segments;
+        spelled = (rest, (single, placeholder_read size i o rest body w), h.spelled);
+        printed = rw (says, no_positions i o size text rest) (ap (λ (r : Outcome). record { text = shown ++ r.text; fault = r.fault }) h.printed);
+      } in
       rw (braces_rest i (written Formatx o) rest) all

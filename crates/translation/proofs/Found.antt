@@ -64,7 +64,7 @@ le_false a b h = grind (arith, nat_tests)
 pub from_some : {A : Type 0} (P : A → Type 0) (r : Option A) (x : A) → r ≡ Some x → IfSome r P → P x
 from_some P r x e h = subst (λ (o : Option _). IfSome o P) e h
 
-pub wide : (n : ℕ) → n < 2 ^ 31 → n < 2 ^ 64
+pub wide : (n : ℕ) → n < 2 ^ 31 → n < 2 ^ 63
 wide n h = omega arith
 
 -- a numeral has a byte
@@ -73,7 +73,7 @@ numeral_length base n upper = let f = numeral_first base n upper in rw f.is (ome
 
 -- the options of a row are well formed
 module _ (std : NumeralIsStd) where
-  pub decimal_body : (target : Target) (plus : Bool) (w : ℕ) (narrow minus zeros : Bool) → w < 2 ^ 64 → (narrow ≡ false → 0 < w) → IfSome (decimal_plan target (row_by narrow minus zeros) plus w) IsBody
+  pub decimal_body : (target : Target) (plus : Bool) (w : ℕ) (narrow minus zeros : Bool) → w < 2 ^ 63 → (narrow ≡ false → 0 < w) → IfSome (decimal_plan target (row_by narrow minus zeros) plus w) IsBody
   decimal_body Formatx plus w true minus zeros few some = record { width = tt; precision = tt; zero = tt }
   decimal_body Formatx plus w false true zeros few some = record { width = (some refl, writes std w few); precision = tt; zero = tt }
   decimal_body Formatx plus w false false true few some = record { width = (some refl, writes std w few); precision = tt; zero = tt }
@@ -85,7 +85,7 @@ module _ (std : NumeralIsStd) where
   decimal_body Strfmt true w false false false few some = tt
   decimal_body Strfmt false w false false false few some = record { width = (some refl, writes std w few); precision = tt; zero = tt }
 
-  pub based_body : (target : Target) (letters : Letters) (p w : ℕ) (narrow minus zeros : Bool) → w < 2 ^ 64 → (narrow ≡ false → p < w) → IfSome (based_plan target (row_by narrow minus zeros) letters p w) IsBody
+  pub based_body : (target : Target) (letters : Letters) (p w : ℕ) (narrow minus zeros : Bool) → w < 2 ^ 63 → (narrow ≡ false → p < w) → IfSome (based_plan target (row_by narrow minus zeros) letters p w) IsBody
   based_body target letters p w true minus zeros few some = record { width = tt; precision = tt; zero = tt }
   based_body target letters p w false true zeros few some =
       let low : p < w = some refl in record { width = (omega arith, writes std (w - p) (omega arith)); precision = tt; zero = tt }
@@ -96,18 +96,19 @@ module _ (std : NumeralIsStd) where
     where
       o : Options
       o = record { side = Rattle.translation.specs.declared.options.Side.TheVariants.Right; plus = false; zero = false; width = Some w; precision = None; letters = letters }
+
       by_test : (b : Bool) → IfSome (if b then Some o else None) IsBody
       by_test true = let low : p < w = some refl in record { width = (omega arith, writes std w few); precision = tt; zero = tt }
       by_test false = tt
 
-  pub precision_body : (q : ℕ) → q < 2 ^ 64 → IsPrecision (cutting q)
+  pub precision_body : (q : ℕ) → q < 2 ^ 63 → IsPrecision (cutting q)
   precision_body q few = by_test (q == 2147483647)
     where
       by_test : (b : Bool) → IsPrecision (if b then None else Some q)
       by_test true = tt
       by_test false = writes std q few
 
-  pub text_body : (w : ℕ) (q : Option ℕ) (narrow minus zeros : Bool) → w < 2 ^ 64 → (narrow ≡ false → 0 < w) → IsPrecision q → IsBody (text_plan (row_by narrow minus zeros) w q)
+  pub text_body : (w : ℕ) (q : Option ℕ) (narrow minus zeros : Bool) → w < 2 ^ 63 → (narrow ≡ false → 0 < w) → IsPrecision q → IsBody (text_plan (row_by narrow minus zeros) w q)
   text_body w q true minus zeros few some p = record { width = tt; precision = p; zero = tt }
   text_body w q false true zeros few some p = record { width = (some refl, writes std w few); precision = p; zero = tt }
   text_body w q false false true few some p = record { width = (some refl, writes std w few); precision = p; zero = tt }
@@ -135,6 +136,7 @@ based_keeps target ToRight letters p w = by_test (p == 0)
   where
     o : Options
     o = record { side = Rattle.translation.specs.declared.options.Side.TheVariants.Right; plus = false; zero = false; width = Some w; precision = None; letters = letters }
+
     by_test : (b : Bool) → IfSome (if b then Some o else None) (λ o. o.letters ≡ letters)
     by_test true = refl
     by_test false = tt
@@ -201,7 +203,7 @@ based_found_of target i f kind letters w t conversion width e =
     let row : Row = row_by (nat_le w (least_length f kind)) f.left_adj f.zero_pad in
     let all : option_map (prefixed target i p) (based_plan target row letters (length p) w) ≡ based_field target row i (letters_text target letters) p (numeral 10 false w) (numeral 10 false (w - length p)) = based_written target row letters p w i in
     let given : based_field target row i (letters_text target letters) p (numeral 10 false w) (numeral 10 false (w - length p)) ≡ Some t =
-        subst (λ (n : ℕ). based_field target (row_by (nat_le n (least_length f kind)) f.left_adj f.zero_pad) i (letters_text target letters) p (numeral 10 false n) (numeral 10 false (n - length p)) ≡ Some t) wide_is e in
+    subst (λ (n : ℕ). based_field target (row_by (nat_le n (least_length f kind)) f.left_adj f.zero_pad) i (letters_text target letters) p (numeral 10 false n) (numeral 10 false (n - length p)) ≡ Some t) wide_is e in
     let o = map_some (prefixed target i p) (based_plan target row letters (length p) w) t (all ∙ given) in
     record { least = least; plain = plain_prefix f.alt_form f.conversion_type; o = o.0; plan = o.1; text = sym o.2 }
 

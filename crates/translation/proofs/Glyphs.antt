@@ -52,3 +52,6 @@ no_minus (b ∷ bs) h = let low : 48 ≤ b = h.0.0 in grind (arith, nat_tests)
 
 pub numeral_no_minus : (base n : ℕ) (upper : Bool) → 0 < base → base ≤ 16 → (slice_index (numeral base upper n) 0 == 45) ≡ false
 numeral_no_minus base n upper some few = no_minus (numeral base upper n) (glyphs base n upper some few)
+
+pub numeral_ascii : (base n : ℕ) (upper : Bool) → 0 < base → base ≤ 16 → IsAscii (numeral base upper n)
+numeral_ascii base n upper some few = glyphs_ascii (numeral base upper n) (glyphs base n upper some few)

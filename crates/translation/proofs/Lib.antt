@@ -10,4 +10,10 @@ pub mod Glyphs
 pub mod Values
 pub mod Found
 pub mod FormatxFields
+pub mod Induction
+pub mod FormatxLaw
+pub mod StrfmtRead
+pub mod StrfmtPieces
+pub mod StrfmtFields
+pub mod StrfmtLaw
 pub mod FormatxRows

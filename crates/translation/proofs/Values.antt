@@ -147,7 +147,7 @@ take_min zero xs = let e : min 0 (length xs) ≡ 0 = omega arith in rw e refl
 take_min (suc q) [] = let e : min (suc q) 0 ≡ 0 = omega arith in rw e refl
 take_min (suc q) (x ∷ xs) = let e : min (suc q) (suc (length xs)) ≡ suc (min q (length xs)) = omega arith in rw e (ap (λ (t : List ℕ). x ∷ t) (take_min q xs))
 
-take_whole : (q : ℕ) (xs : List ℕ) → length xs ≤ q → take q xs ≡ xs
+pub take_whole : (q : ℕ) (xs : List ℕ) → length xs ≤ q → take q xs ≡ xs
 take_whole zero [] h = refl
 take_whole zero (x ∷ xs) h = absurd (omega arith)
 take_whole (suc q) [] h = refl

@@ -33,10 +33,10 @@ abbrev pub HasI32 : FormatElement → Type 0
 HasI32 (Verbatim s) = ⊤
 HasI32 (Format f) = IfSome (number_of f.width) (λ n. n < 2 ^ 31) × IfSome (number_of f.precision) (λ n. n < 2 ^ 31)
 
--- The elements and the kinds are those of a program, whose numbers have 32 bits and whose lists fit 64.
+-- The elements and the kinds are those of a program, whose numbers have 32 bits and whose lists fit an isize.
 pub record AreOfProgram (elements : List FormatElement) (kinds : List Kind) : Type 0 where
   pub numbers : AllByRecursion HasI32 elements
-  pub few : length kinds < 2 ^ 64
+  pub few : length kinds < 2 ^ 63
 
 -- The dialect that a template is translated to.
 abbrev pub dialect_of : Target → Dialect
