@@ -48,6 +48,7 @@ pub fn reformat<S: Source, K: Sink>(
 }
 
 /// What the words of the program say.
+#[derive(Clone, Copy)]
 enum Command<'w> {
     Rewrite,
     Plan,
@@ -81,8 +82,12 @@ fn command_of(words: &[String]) -> Option<Command<'_>>
     ensures { MatchOption result (¬ IsCommand (map string_bytes words.now)) (IsSaid (map string_bytes words.now)) }
 {
     match words {
-        [word] => one_word(word.as_str()),
-        [word, format] => two_words(word.as_str(), format.as_str()),
+        [only] => one_word(only.as_str()),
+        [first, second] => {
+            let word = first.as_str();
+            let format = second.as_str();
+            two_words(word, format)
+        }
         _ => None,
     }
 }

@@ -1,5 +1,6 @@
 use Rattle.std.proofs.Common.{◌≡◌, ◌∙◌, List, ℕ, map, sym, subst, string_bytes, rules, Result, Ok, Err}
 use Rattle.std.proofs.lemmas.Str.{IsUtf8-string_bytes}
+use Rattle.std.proofs.lemmas.Result.{err_from_is_err_and}
 use Rattle.values.specs.declared.value.Value.{Value}
 use Rattle.values.specs.Datum.{kind_of, datum_of}
 use Rattle.printer.specs.declared.error.RenderFault.{RenderFault}
@@ -30,7 +31,9 @@ returns-in-Ok-clause-kept c =
 pub returns-in-Err-Fault-clause-refused : goal.returns-in-Err-Fault-clause-refused
 returns-in-Err-Fault-clause-refused c =
     unrendered c.prints_columns.ensures c.args.source.now c.args.printer.now c.args.number c.args.row.now c.in-Err-Fault.fault c.in_ok-values.values.items c.requires.source c.requires.names c.in_ok-values.ensures.read
-    (printed_of c.args.printer.now c.deref.result.now c.in_ok-values.values.items (Err c.in-Err-Fault.fault) c.deref.ensures.value c.in-Err-Fault.ensures.refused)
+    (printed_of c.args.printer.now c.deref.result.now c.in_ok-values.values.items (Err c.in-Err-Fault.fault) c.deref.ensures.value (rw c.in-Err-Fault.field-0-is at c.in-Err-Fault.ensures.refused))
 
 pub returns-in_err-values-clause-refused : goal.returns-in_err-values-clause-refused
-returns-in_err-values-clause-refused c = let h = c.in_err-values in ?
+returns-in_err-values-clause-refused c =
+    let p = err_from_is_err_and c.from_residual.result c.from_residual.ensures.1 in
+    rw (p.1, p.2) (unread_if c.prints_columns.ensures c.args.source.now c.args.printer.now c.args.number c.args.row.now c.in_err-values.field-0.0 c.requires.source c.in_err-values.ensures.refused)
