@@ -1,4 +1,4 @@
 mod NoMemory
 mod Joining
 mod Tokens
-mod WrittenLemmas
+pub mod WrittenLemmas

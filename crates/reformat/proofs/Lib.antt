@@ -1,4 +1,4 @@
 mod RowLemmas
 mod RewriteLemmas
 mod ReformatLemmas
-mod WordTest
+mod CommandLemmas

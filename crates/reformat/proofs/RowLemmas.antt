@@ -16,8 +16,10 @@ use Rattle.row_plan.specs.Plan.{IsRead}
 use Rattle.printer.specs.Prints.{Printing, Prints}
 use Rattle.printer.specs.declared.error.RenderFault.{RenderFault}
 use Rattle.line_job.specs.declared.job.Refusal.{Refusal}
+use Rattle.line_job.specs.declared.job.Refusal.TheVariants.{Line, NoMemory}
+use Rattle.line_job.specs.Refusal.{IfRefused}
 use Rattle.header_lines.specs.declared.cause.LineCause.{LineCause}
-use Rattle.header_lines.specs.declared.cause.LineCause.TheVariants.{NotARow, Render}
+use Rattle.header_lines.specs.declared.cause.LineCause.TheVariants.{Render}
 use Rattle.header_lines.proofs.ClearHeaders.{header_lines_are_clear}
 use Rattle.reformat.specs.declared.rows.Source.{Source}
 use Rattle.reformat.specs.Rewrite.{IsRow, IsRowOf, Renders, IsRewrittenAs}
@@ -72,7 +74,7 @@ pub unrendered : PrintsColumns → (source : Source) (printing : Printing) (numb
 unrendered prints source printing number row fault values sound none read text =
     inr (map datum_of values, fault, row_of prints source printing row values sound read, renders source printing values (fault_is fault) none read.kinds text, refl)
 
-pub unread : PrintsColumns → (source : Source) (printing : Printing) (number : ℕ) (row : List ℕ) (why : LineCause) → IsSoundSource source → IsNoRow source.plan number row why → RefusesRow (layout_of source printing) number row why
+unread : PrintsColumns → (source : Source) (printing : Printing) (number : ℕ) (row : List ℕ) (why : LineCause) → IsSoundSource source → IsNoRow source.plan number row why → RefusesRow (layout_of source printing) number row why
 unread prints source printing number row why sound none = inl ((λ values is. none.0 values (plan_row prints source row values sound is)), none.1)
 
 pub on_ok : {T E A B : Type 0} (r : Result T E) → (A → B) → OnOk r A → OnOk r B
@@ -81,3 +83,15 @@ on_ok (Err e) f h = tt
 
 pub ended : (old text mid new : List ℕ) → mid ≡ old ++ text → new ≡ mid ++ 10 ∷ [] → new ≡ old ++ (text ++ 10 ∷ [])
 ended old text mid new e f = f ∙ ap (λ (t : List ℕ). t ++ 10 ∷ []) e ∙ append_assoc old text (10 ∷ [])
+
+-- the same, where the code sees a slice of the values
+pub printed_of : (printing : Printing) (seen values : List Value) (outcome : Result (List ℕ) RenderFault) → seen ≡ values → Prints printing (map kind_of seen) (map datum_of seen) outcome → Prints printing (map kind_of values) (map datum_of values) outcome
+printed_of printing seen values outcome same prints = subst (λ (vs : List Value). Prints printing (map kind_of vs) (map datum_of vs) outcome) same prints
+
+abbrev pub not_read : Refusal LineCause → Result Unit (Refusal LineCause)
+not_read why = Err why
+
+-- the refusal of a row that has no values, as that of the job
+pub unread_if : PrintsColumns → (source : Source) (printing : Printing) (number : ℕ) (row : List ℕ) (why : Refusal LineCause) → IsSoundSource source → IfRefused (not_read why) (IsNoRow source.plan number row) → IfRefused (not_read why) (RefusesRow (layout_of source printing) number row)
+unread_if prints source printing number row (Line cause) sound none = unread prints source printing number row cause sound none
+unread_if prints source printing number row NoMemory sound none = tt

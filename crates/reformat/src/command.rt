@@ -1,14 +1,15 @@
 // The commands of the program.
-ghost use Rattle.std.specs.Prelude.{◌≡◌, ℕ, List, map, string_bytes, MatchOption};
+ghost use Rattle.std.specs.Prelude.{◌≡◌, ◌∷◌, [], ℕ, List, map, string_bytes, MatchOption};
 ghost use Rattle.line_job.specs.Ends.{Tells, source_seen, sink_seen};
 ghost use Rattle.line_job.specs.Told.{RunsTold};
 ghost use Rattle.header_lines.specs.Message.{cause_message};
 ghost use Rattle.plan_jobs.specs.Plan.{plan_rules, kinds_next as plan_start};
 ghost use Rattle.plan_jobs.specs.Scan.{scan_rules};
+ghost use Rattle.plan_jobs.specs.Written.{PlansAll, ScansAll};
 ghost use Rattle.reformat.specs.Rules.{rewrite_rules, kinds_next};
 ghost use Rattle.reformat.specs.Reformats.{Reformats, WritesAll};
 ghost use Rattle.reformat.specs.Run.{usage, rewrite_words, plan_words, scan_words, IsCommand, input_limit, Completes};
-ghost use Rattle.reformat.specs.Inner.Said.{IsSaid};
+ghost use Rattle.reformat.specs.Inner.Said.{IsSaid, Does};
 
 use crate::ReformatError;
 use crate::rewrite::Rewrite;
@@ -47,10 +48,33 @@ pub fn reformat<S: Source, K: Sink>(
 }
 
 /// What the words of the program say.
+#[derive(Clone, Copy)]
 enum Command<'w> {
     Rewrite,
     Plan,
     Scan(&'w str),
+}
+
+/// The command that one word says.
+fn one_word(word: &str) -> Option<Command<'_>>
+    ensures { MatchOption result (¬ IsCommand (word.now ∷ [])) (IsSaid (word.now ∷ [])) }
+{
+    match word {
+        "rewrite" => Some(Command::Rewrite),
+        "plan" => Some(Command::Plan),
+        _ => None,
+    }
+}
+
+/// The command that two words say.
+fn two_words<'w>(word: &str, format: &'w str) -> Option<Command<'w>>
+    ensures { MatchOption result (¬ IsCommand (word.now ∷ format.now ∷ [])) (IsSaid (word.now ∷ format.now ∷ [])) }
+{
+    if word == "scan" {
+        Some(Command::Scan(format))
+    } else {
+        None
+    }
 }
 
 /// The command that the words say.
@@ -58,13 +82,35 @@ fn command_of(words: &[String]) -> Option<Command<'_>>
     ensures { MatchOption result (¬ IsCommand (map string_bytes words.now)) (IsSaid (map string_bytes words.now)) }
 {
     match words {
-        [word] => match word.as_str() {
-            "rewrite" => Some(Command::Rewrite),
-            "plan" => Some(Command::Plan),
-            _ => None,
-        },
-        [word, format] if word.as_str() == "scan" => Some(Command::Scan(format.as_str())),
+        [only] => one_word(only.as_str()),
+        [first, second] => {
+            let word = first.as_str();
+            let format = second.as_str();
+            two_words(word, format)
+        }
         _ => None,
+    }
+}
+
+/// Does what the command says, and answers the exit status.
+fn run_command<S: Source, K: Sink, E: Sink>(
+    alloc: Global,
+    command: Command<'_>,
+    input: &mut S,
+    output: &mut K,
+    errors: &mut E,
+) -> u8
+    ensures does { Does command.entry (source_seen S.supply input.old input.new) (sink_seen K.held K.faults output.old output.new) (sink_seen E.held E.faults errors.old errors.new) result }
+    ensures quiet { result ≡ 0 → errors.new ≡ errors.old }
+{
+    match command {
+        Command::Rewrite => {
+            let texts = Bump::new(alloc);
+            let mut job = Rewrite::new(alloc, &texts);
+            run_told(alloc, &mut job, input, output, errors, LIMIT)
+        }
+        Command::Plan => run_plan(alloc, input, output, errors, LIMIT),
+        Command::Scan(format) => run_scan(alloc, format, input, output, errors, LIMIT),
     }
 }
 
@@ -89,9 +135,17 @@ pub fn run<S: Source, K: Sink, E: Sink>(
     ensures complete { map string_bytes words.now ≡ rewrite_words
         → Completes (source_seen S.supply input.old input.new) (sink_seen K.held K.faults output.old output.new) result }
 
+    // Status 0 of `plan`: all was read, and the planned text of the first two lines was written.
+    ensures planned { map string_bytes words.now ≡ plan_words → result ≡ 0
+        → PlansAll (source_seen S.supply input.old input.new) (sink_seen K.held K.faults output.old output.new) }
+
     // Every status of `plan` is that of a result of the job that plans, and its message is told.
     ensures plans { map string_bytes words.now ≡ plan_words
         → RunsTold plan_rules plan_start cause_message input_limit (source_seen S.supply input.old input.new) (sink_seen K.held K.faults output.old output.new) (sink_seen E.held E.faults errors.old errors.new) result }
+
+    // Status 0 of `scan`: all was read, and the tokens of each line were written.
+    ensures scanned { (format : List ℕ) → map string_bytes words.now ≡ scan_words format → result ≡ 0
+        → ScansAll format (source_seen S.supply input.old input.new) (sink_seen K.held K.faults output.old output.new) }
 
     // Every status of `scan` is that of a result of the job that scans by the format, and its message is told.
     ensures scans { (format : List ℕ) → map string_bytes words.now ≡ scan_words format
@@ -105,13 +159,7 @@ pub fn run<S: Source, K: Sink, E: Sink>(
     ensures quiet { result ≡ 0 → errors.new ≡ errors.old }
 {
     match command_of(words) {
-        Some(Command::Rewrite) => {
-            let texts = Bump::new(alloc);
-            let mut job = Rewrite::new(alloc, &texts);
-            run_told(alloc, &mut job, input, output, errors, LIMIT)
-        }
-        Some(Command::Plan) => run_plan(alloc, input, output, errors, LIMIT),
-        Some(Command::Scan(format)) => run_scan(alloc, format, input, output, errors, LIMIT),
+        Some(command) => run_command(alloc, command, input, output, errors),
         None => {
             tell(errors, USAGE);
             2
