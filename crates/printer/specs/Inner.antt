@@ -1,2 +1,4 @@
 -- What only private calls and proofs cite.
 pub mod State
+pub mod Keys
+pub mod Appending

@@ -1,4 +1,5 @@
 pub mod Dialect
 pub mod Fault
 pub mod Inner
+pub mod Laws
 pub mod Prints

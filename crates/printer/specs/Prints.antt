@@ -1,12 +1,12 @@
 -- What a template prints over values of kinds: a text, or a fault.
-use Rattle.std.specs.Prelude.{◌≡◌, ◌⊎◌, ◌||◌, ℕ, ◌+◌, Bool, true, false, if◌then◌else◌, List, [], ◌∷◌, ◌++◌, bytes_eq, Option, Some, None, Result, Ok, Err, ⊤}
+use Rattle.std.specs.Prelude.{◌≡◌, ◌||◌, ℕ, ◌+◌, true, false, if◌then◌else◌, List, [], ◌∷◌, bytes_eq, Option, Some, None, Result, Ok, Err, ⊤}
 use Rattle.numerals.specs.Numeral.{numeral}
 use Rattle.sprintf.specs.declared.PrintfError.{PrintfError}
 use Rattle.sprintf.specs.declared.parser.FormatElement.{FormatElement}
 use Rattle.sprintf.specs.Grammar.{IsFormat, IsNoFormat}
 use Rattle.sprintf.specs.Printed.{PrintsFormat, RefusesFormat}
 use Rattle.strfmt.specs.Fault.{Outcome}
-use Rattle.strfmt.specs.Text.{Meaning, Prints as StrfmtPrints}
+use Rattle.strfmt.specs.Text.{Prints as StrfmtPrints}
 use Rattle.formatx.specs.Fault.{Fault}
 use Rattle.formatx.specs.Grammar.{IsTemplate}
 use Rattle.formatx.specs.Scene.{NamedPosition}
@@ -18,7 +18,6 @@ use Rattle.printer.specs.declared.dialect.Dialect.{Dialect}
 use Rattle.printer.specs.declared.dialect.Dialect.TheVariants.{Printf, Strfmt, Formatx}
 use Rattle.printer.specs.declared.error.PrinterError.{PrinterError}
 use Rattle.printer.specs.declared.error.PrinterError.TheVariants.{Template, NoMemory}
-use Rattle.printer.specs.declared.error.TemplateFault.{TemplateFault}
 use Rattle.printer.specs.declared.error.TemplateFault.TheVariants.{Printf as OfPrintf, Formatx as OfFormatx}
 use Rattle.printer.specs.declared.error.TextError.{TextError}
 use Rattle.printer.specs.declared.error.TextError.TheVariants.{Fault as TextFault, NoMemory as NoRoom}

@@ -2,9 +2,13 @@
 ghost use Rattle.std.specs.Prelude.{◌≡◌, ◌++◌, ℕ, List, [], map, IfOk, IfErr, OnOk, OnErr, Ok, string_bytes};
 ghost use Rattle.values.specs.Datum.{kind_of, datum_of, word_text};
 ghost use Rattle.printer.specs.Prints.{Prints, IsTemplateOf, RefusesTemplate, RefusesText};
+ghost use Rattle.printer.specs.Inner.State.{AreInPlace, StandsFor, dialect_of, name_of};
 
-use crate::{Dialect, PrinterError, TextError};
-use sprintf::parser::FormatElement;
+use crate::append::{append_formatx, append_printf, append_strfmt};
+use crate::{Dialect, PrinterError, TemplateFault, TextError};
+use formatx::Name;
+use sprintf::PrintfError;
+use sprintf::parser::{FormatElement, parse_format_string};
 use std::alloc::Global;
 use std::marker::Model;
 use values::{Value, Word};
@@ -22,17 +26,90 @@ enum Parsed<'t> {
 pub struct Printer<'t> {
     text: &'t str,
     parsed: Parsed<'t>,
-    names: Vec<formatx::Name>,
+    names: Vec<Name>,
 }
 
 impl<'t> Model for Printer<'t> {
     ghost use Rattle.std.specs.Prelude.{map, string_bytes};
     ghost use Rattle.printer.specs.Prints.{Printing};
-    ghost use Rattle.printer.specs.Inner.State.{dialect_of, name_of};
+    ghost use Rattle.printer.specs.Inner.State.{IsSound, dialect_of, name_of};
 
     ghost Value = { Printing };
 
     ghost view = { λ it. record { dialect = dialect_of it.parsed; template = it.text.now; names = map name_of it.names.items } };
+
+    ghost invariant = { λ it. IsSound it.text.now it.parsed it.names.items };
+}
+
+/// The elements of a printf template.
+fn parse_printf(alloc: Global, template: &str) -> Result<Parsed<'_>, PrinterError>
+    ensures stands { IfOk result (λ parsed. StandsFor parsed template.now) }
+    ensures dialect { IfOk result (λ parsed. dialect_of parsed ≡ Dialect.Printf) }
+    ensures refused { IfErr result (RefusesTemplate Dialect.Printf template.now) }
+{
+    match parse_format_string(alloc, template) {
+        Ok(elements) => Ok(Parsed::Printf(elements)),
+        Err(PrintfError::ParseError) => Err(PrinterError::Template(TemplateFault::Printf)),
+        Err(_) => Err(PrinterError::NoMemory),
+    }
+}
+
+/// The pieces of a strfmt template. A malformed text is one too.
+fn parse_strfmt(alloc: Global, template: &str) -> Result<Parsed<'_>, PrinterError>
+    ensures stands { IfOk result (λ parsed. StandsFor parsed template.now) }
+    ensures dialect { IfOk result (λ parsed. dialect_of parsed ≡ Dialect.Strfmt) }
+    ensures refused { IfErr result (RefusesTemplate Dialect.Strfmt template.now) }
+{
+    match strfmt::Template::new(alloc, template) {
+        Ok(template) => Ok(Parsed::Strfmt(template)),
+        Err(_) => Err(PrinterError::NoMemory),
+    }
+}
+
+/// The segments of a formatx template.
+fn parse_formatx(alloc: Global, template: &str) -> Result<Parsed<'_>, PrinterError>
+    ensures stands { IfOk result (λ parsed. StandsFor parsed template.now) }
+    ensures dialect { IfOk result (λ parsed. dialect_of parsed ≡ Dialect.Formatx) }
+    ensures template { OnOk result (IsTemplateOf Dialect.Formatx template.now) }
+    ensures refused { IfErr result (RefusesTemplate Dialect.Formatx template.now) }
+{
+    match formatx::Template::new(alloc, template) {
+        Ok(template) => Ok(Parsed::Formatx(template)),
+        Err(formatx::Error::NoMemory) => Err(PrinterError::NoMemory),
+        Err(_) => Err(PrinterError::Template(TemplateFault::Formatx)),
+    }
+}
+
+/// Parses a template in the dialect.
+fn parse<'t>(alloc: Global, dialect: Dialect, template: &'t str) -> Result<Parsed<'t>, PrinterError>
+    ensures stands { IfOk result (λ parsed. StandsFor parsed template.now) }
+    ensures dialect { IfOk result (λ parsed. dialect_of parsed ≡ dialect) }
+    ensures template { OnOk result (IsTemplateOf dialect template.now) }
+    ensures refused { IfErr result (RefusesTemplate dialect template.now) }
+{
+    match dialect {
+        Dialect::Printf => parse_printf(alloc, template),
+        Dialect::Strfmt => parse_strfmt(alloc, template),
+        Dialect::Formatx => parse_formatx(alloc, template),
+    }
+}
+
+/// The words as names of the positions, from 0 on.
+fn name_positions(alloc: Global, words: &[Word]) -> Result<Vec<Name>, PrinterError>
+    ensures names { IfOk result (λ names. map name_of names.items ≡ map word_text words.now) }
+    ensures in_place { IfOk result (λ names. AreInPlace names.items) }
+    ensures memory { IfErr result (λ e. e ≡ PrinterError.NoMemory) }
+{
+    let mut names = Vec::new(alloc);
+    'words: for (index, word) in words.iter().enumerate() {
+        let Ok(name) = String::from_str(alloc, word.as_str()) else {
+            return Err(PrinterError::NoMemory);
+        };
+        if names.push(Name { name, index }).is_err() {
+            return Err(PrinterError::NoMemory);
+        }
+    }
+    Ok(names)
 }
 
 impl<'t> Printer<'t> {
@@ -60,7 +137,13 @@ impl<'t> Printer<'t> {
         ensures template { OnOk result (IsTemplateOf dialect template.now) }
         ensures refused { IfErr result (RefusesTemplate dialect template.now) }
     {
-        Err(PrinterError::NoMemory)
+        let names = name_positions(alloc, names)?;
+        let parsed = parse(alloc, dialect, template)?;
+        Ok(Printer {
+            text: template,
+            parsed,
+            names,
+        })
     }
 
     /// The text of the values.
@@ -84,6 +167,10 @@ impl<'t> Printer<'t> {
         ensures refused { IfErr result (RefusesText self.now (map kind_of values.now) (map datum_of values.now)) }
         ensures unchanged { OnErr result (string_bytes out.new ≡ string_bytes out.old) }
     {
-        Err(TextError::NoMemory)
+        match &self.parsed {
+            Parsed::Printf(elements) => append_printf(alloc, elements, values, out),
+            Parsed::Strfmt(template) => append_strfmt(alloc, template, &self.names, values, out),
+            Parsed::Formatx(template) => append_formatx(alloc, template, &self.names, values, out),
+        }
     }
 }
