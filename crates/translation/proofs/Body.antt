@@ -1,6 +1,6 @@
 -- What the options of a field are made of, behind their side.
-use Rattle.std.proofs.Common.{◌≡◌, ◌≢◌, ◌⊎◌, inl, inr, ℕ, suc, zero, ◌+◌, ◌<◌, ◌≤◌, ◌^◌, Bool, true, false, List, [], ◌∷◌, ◌++◌, length, get_or, Option, Some, None, IfSome, refl, ap, sym, ◌∙◌, subst, arith, append_assoc}
-use Rattle.std.specs.Prelude.{◌==◌, ◌&&◌, ◌||◌, codes, ⊤}
+use Rattle.std.proofs.Common.{◌≡◌, ℕ, ◌<◌, Bool, true, false, List, [], ◌∷◌, ◌++◌, Option, Some, None, refl, arith}
+use Rattle.std.specs.Prelude.{◌==◌, ◌||◌, codes, ⊤}
 use Rattle.std.specs.Char.{is_ascii_digit}
 use Rattle.std.specs.List.{list_any, AllByRecursion}
 use Rattle.std.specs.Str.{all_ascii_digits}
@@ -9,11 +9,9 @@ use Rattle.numerals.specs.Numeral.{numeral}
 use Rattle.translation.specs.declared.options.Letters.{Letters}
 use Rattle.translation.specs.declared.options.Letters.TheVariants.{Unset as NoLetters, LowerHex, UpperHex, Octal}
 use Rattle.translation.specs.declared.options.Options.{Options}
-use Rattle.translation.specs.declared.options.Side.{Side}
-use Rattle.translation.specs.declared.options.Side.TheVariants.{Unset, Left, Right, RightOfZeros}
 use Rattle.translation.specs.declared.target.Target.{Target}
 use Rattle.translation.specs.declared.target.Target.TheVariants.{Strfmt, Formatx}
-use Rattle.translation.specs.Inner.Options.{written, side_text, plus_text, zero_text, width_text, precision_text, letters_text}
+use Rattle.translation.specs.Inner.Options.{plus_text, zero_text, width_text, precision_text, letters_text}
 use Rattle.translation.proofs.Decimals.{Writes}
 
 -- a byte of options: no brace, no colon, no side

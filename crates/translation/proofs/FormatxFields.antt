@@ -1,10 +1,9 @@
 -- A translated field has in formatx the text that it has in printf.
-use Rattle.std.proofs.Common.{◌≡◌, ◌≢◌, ◌⊎◌, inl, inr, ℕ, suc, zero, ◌+◌, ◌-◌, ◌<◌, ◌≤◌, ◌^◌, ℤ, pos, negsuc, Bool, true, false, List, [], ◌∷◌, ◌++◌, length, take, Option, Some, None, IfSome, Ok, refl, ap, sym, ◌∙◌, subst, arith}
-use Rattle.std.specs.Prelude.{◌&&◌, codes, ⊤, not, nat_le, unsigned_abs}
+use Rattle.std.proofs.Common.{◌≡◌, ◌≢◌, ◌⊎◌, inl, inr, ℕ, ◌+◌, ◌-◌, ◌<◌, ◌≤◌, ◌^◌, ℤ, pos, negsuc, Bool, true, false, List, [], ◌∷◌, ◌++◌, length, take, Option, Some, None, Ok, refl, ap, sym, ◌∙◌, subst, arith}
+use Rattle.std.specs.Prelude.{◌&&◌, not, nat_le, unsigned_abs}
 use Rattle.std.specs.Char.{encode_utf8}
 use Rattle.std.specs.Str.{chars}
 use Rattle.std.proofs.lemmas.Str.{chars-IsAscii, encode_ascii, IsAscii-take}
-use Rattle.std.proofs.lemmas.Str.Ascii.{IsAscii-cons}
 use Rattle.numerals.specs.Numeral.{numeral}
 use Rattle.numerals.specs.Laws.{NumeralIsStd}
 use Rattle.sprintf.specs.declared.parser.ConversionSpecifier.{ConversionSpecifier}
@@ -17,26 +16,26 @@ use Rattle.formatx.specs.Values.{decimal_of, integer_meaning, text_meaning}
 use Rattle.formatx.specs.declared.value.Shape.TheVariants.{Integer, Text, Raw}
 use Rattle.values.specs.declared.kind.Kind.{Kind}
 use Rattle.values.specs.declared.kind.Kind.TheVariants.{Word, Char}
-use Rattle.values.specs.Datum.{Datum, natural, integer, word, character, IsOfKind, printf_meaning}
+use Rattle.values.specs.Datum.{Datum, word, character, IsOfKind, printf_meaning}
 use Rattle.values.specs.Templates.{formatx_meaning}
-use Rattle.row_format.specs.Plannable.{is_number, is_signed}
+use Rattle.row_format.specs.Plannable.{is_signed}
 use Rattle.translation.specs.declared.options.Letters.{Letters}
 use Rattle.translation.specs.declared.options.Letters.TheVariants.{Unset as NoLetters, LowerHex, UpperHex, Octal}
 use Rattle.translation.specs.declared.options.Options.{Options}
 use Rattle.translation.specs.declared.row.Row.{Row}
 use Rattle.translation.specs.declared.row.Row.TheVariants.{Unpadded, ToLeft, ByZeros, ToRight}
 use Rattle.translation.specs.declared.target.Target.TheVariants.{Formatx}
-use Rattle.translation.specs.Table.{row_by, prefix_in, least_length, in_braces, goes_with, suits, field_by, translated_field, precision_text}
+use Rattle.translation.specs.Table.{row_by, prefix_in, least_length, in_braces, suits, field_by, translated_field, precision_text}
 use Rattle.translation.specs.Laws.{HasI32, IsAsciiDatum}
 use Rattle.translation.specs.Inner.Options.{written, plus_text}
-use Rattle.translation.specs.Inner.Plans.{decimal_plan, based_plan, text_plan, cutting}
+use Rattle.translation.specs.Inner.Plans.{text_plan, cutting}
 use Rattle.translation.proofs.Body.{IsBody}
 use Rattle.translation.proofs.Written.{cutting_written}
-use Rattle.translation.proofs.Values.{lead, decimal_text, signed_decimal, unsigned_decimal, printed_number, based_printed, is_digits, IsNumber, NumberOf, number_of_kind, ascii_of, cut_is, cut_formatx}
+use Rattle.translation.proofs.Values.{lead, decimal_text, signed_decimal, unsigned_decimal, printed_number, based_printed, is_digits, NumberOf, number_of_kind, ascii_of, cut_is, cut_formatx}
 use Rattle.translation.proofs.Glyphs.{numeral_chars, numeral_no_minus}
 use Rattle.translation.proofs.FormatxRead.{spec_by, sign_by}
 use Rattle.translation.proofs.FormatxRows.{body, decimal_rows, based_rows, text_rows}
-use Rattle.translation.proofs.Found.{some_same, then_some, both_true, is_some_value, le_true, le_false, from_some, wide, numeral_length, decimal_body, based_body, precision_body, text_body, decimal_keeps, based_keeps, AllPlain, DecimalFound, decimal_found_of, BasedFound, based_found_of, text_found_of, is_word, is_character, Given, given}
+use Rattle.translation.proofs.Found.{le_true, le_false, from_some, wide, numeral_length, decimal_body, based_body, precision_body, text_body, decimal_keeps, based_keeps, AllPlain, DecimalFound, decimal_found_of, BasedFound, based_found_of, text_found_of, is_word, is_character, given}
 
 -- the options of the field, and its text in both
 pub record FormatxField (i : ℕ) (f : ConversionSpecifier) (kind : Kind) (value : Datum) (t : List ℕ) : Type 0 where

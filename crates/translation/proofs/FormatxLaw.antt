@@ -1,27 +1,25 @@
 -- The template of formatx prints what the format of printf prints.
-use Rattle.std.proofs.Common.{◌≡◌, ◌≢◌, ℕ, suc, zero, ◌+◌, ◌-◌, ◌<◌, ◌≤◌, ◌^◌, true, List, [], ◌∷◌, ◌++◌, length, Option, Some, None, Result, Ok, Err, refl, ap, sym, ◌∙◌, subst, arith, append_assoc, length-append}
-use Rattle.std.specs.Prelude.{codes, ⊤, slice_get}
-use Rattle.std.proofs.lemmas.List.{append-nil}
-use Rattle.numerals.specs.Numeral.{numeral}
+use Rattle.std.proofs.Common.{◌≡◌, ℕ, ◌+◌, ◌<◌, ◌^◌, true, List, [], ◌∷◌, ◌++◌, length, Some, Ok, refl, ap, sym, ◌∙◌, subst, arith, append_assoc, length-append}
+use Rattle.std.specs.Prelude.{slice_get}
 use Rattle.numerals.specs.Laws.{NumeralIsStd}
 use Rattle.sprintf.specs.declared.parser.ConversionSpecifier.{ConversionSpecifier}
 use Rattle.sprintf.specs.declared.parser.FormatElement.TheVariants.{Format}
 use Rattle.formatx.specs.Field.{field_text}
 use Rattle.formatx.specs.Scene.{Scene}
-use Rattle.formatx.specs.Text.{Outcome, whole, rendered}
+use Rattle.formatx.specs.Text.{whole}
 use Rattle.formatx.specs.Values.{Meaning}
 use Rattle.formatx.specs.Words.{is_plain}
 use Rattle.values.specs.declared.kind.Kind.{Kind}
-use Rattle.values.specs.Datum.{Datum, IsOfKind, printf_meaning, each_of}
+use Rattle.values.specs.Datum.{Datum, IsOfKind, each_of}
 use Rattle.values.specs.Templates.{formatx_meaning}
 use Rattle.translation.specs.declared.target.Target.TheVariants.{Formatx}
 use Rattle.translation.specs.Table.{translated_field, in_braces}
 use Rattle.translation.specs.Inner.Options.{written}
 use Rattle.translation.specs.Laws.{HasI32, IsAsciiDatum, AreAsciiOf, PrintsTheSame}
-use Rattle.translation.proofs.Decimals.{Writes, writes}
+use Rattle.translation.proofs.Decimals.{writes}
 use Rattle.translation.proofs.FormatxSegments.{Shows, shows_end, shows_plain, shows_open, shows_close, shows_field}
-use Rattle.translation.proofs.FormatxFields.{FormatxField, formatx_field}
-use Rattle.translation.proofs.Induction.{FieldShown, AllShown, plain_front, AllAt, shown_from}
+use Rattle.translation.proofs.FormatxFields.{formatx_field}
+use Rattle.translation.proofs.Induction.{FieldShown, plain_front, AllAt, shown_from}
 
 get_seam : {A : Type 0} (front : List A) (x : A) (xs : List A) → slice_get (front ++ x ∷ xs) (length front) ≡ Some x
 get_seam [] x xs = refl

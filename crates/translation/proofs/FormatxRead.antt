@@ -1,16 +1,15 @@
 -- How formatx reads the options of a field.
-use Rattle.std.proofs.Common.{◌≡◌, ◌≢◌, ◌⊎◌, inl, inr, ℕ, suc, zero, ◌+◌, ◌<◌, ◌≤◌, ◌^◌, Bool, true, false, List, [], ◌∷◌, ◌++◌, length, get_or, drop, Option, Some, None, Result, Ok, Err, refl, ap, sym, ◌∙◌, subst, arith, append_assoc}
-use Rattle.std.specs.Prelude.{◌==◌, ◌&&◌, ◌||◌, codes, ⊤, option_map, slice_index, nat_lt}
-use Rattle.std.specs.Char.{is_ascii_digit, len_utf8}
+use Rattle.std.proofs.Common.{◌≡◌, ◌≢◌, ◌⊎◌, inl, inr, ℕ, ◌<◌, Bool, true, false, List, [], ◌∷◌, ◌++◌, length, Option, Some, None, Ok, refl, ap, ◌∙◌, arith, append_assoc}
+use Rattle.std.specs.Prelude.{◌==◌, option_map, slice_index, nat_lt}
+use Rattle.std.specs.Char.{is_ascii_digit}
 use Rattle.std.specs.Str.{chars}
 use Rattle.std.proofs.lemmas.Bool.Decides.{nat_tests}
 use Rattle.std.proofs.lemmas.Str.{len_utf8_ascii}
 use Rattle.numerals.specs.Numeral.{numeral}
-use Rattle.formatx.specs.Fault.{Fault, ◌>>=◌, between}
+use Rattle.formatx.specs.Fault.{between}
 use Rattle.formatx.specs.Words.{begins, after}
-use Rattle.formatx.specs.Options.{Read, fill_align_of, filled_align, lone_align, first_char, after_char, align_by, sign_of, alternate_of, zero_of, follows_zero, count_of, precision_of, type_of}
+use Rattle.formatx.specs.Options.{fill_align_of, first_char, after_char, align_by, sign_of, zero_of, count_of, precision_of, type_of}
 use Rattle.formatx.specs.Placeholders.{argument_of, options_of, spec_of, placeholder_of, follows_argument}
-use Rattle.formatx.specs.Spans.{no_options}
 use Rattle.formatx.specs.declared.ast.Argument.TheVariants.{Positional}
 use Rattle.formatx.specs.declared.ast.Placeholder.{Placeholder}
 use Rattle.formatx.specs.declared.ast.Align.{Align}

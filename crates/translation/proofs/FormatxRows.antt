@@ -1,6 +1,5 @@
 -- A field of each row of the table has in formatx the text that it has in printf.
-use Rattle.std.proofs.Common.{◌≡◌, ◌≢◌, ◌⊎◌, inl, inr, ℕ, suc, zero, ◌+◌, ◌-◌, ◌<◌, ◌≤◌, Bool, true, false, List, [], ◌∷◌, ◌++◌, length, Option, Some, None, IfSome, refl, ap, sym, ◌∙◌, subst, arith, append_assoc}
-use Rattle.std.specs.Prelude.{codes, ⊤}
+use Rattle.std.proofs.Common.{◌≡◌, ℕ, ◌+◌, ◌-◌, ◌≤◌, Bool, true, false, List, [], ◌∷◌, ◌++◌, length, Option, IfSome, refl, ap, sym, arith, append_assoc}
 use Rattle.std.specs.Str.{chars}
 use Rattle.std.proofs.lemmas.List.{append-nil}
 use Rattle.padding.specs.Field.{fills}
@@ -9,7 +8,6 @@ use Rattle.sprintf.specs.Field.{filled_number, filled_word}
 use Rattle.formatx.specs.Field.{Body, padded}
 use Rattle.formatx.specs.declared.value.Shape.TheVariants.{Integer, Text, Raw}
 use Rattle.translation.specs.declared.options.Letters.{Letters}
-use Rattle.translation.specs.declared.options.Options.{Options}
 use Rattle.translation.specs.declared.target.Target.TheVariants.{Formatx}
 use Rattle.translation.specs.Table.{row_by}
 use Rattle.translation.specs.Inner.Plans.{decimal_plan, based_plan, text_plan}

@@ -1,22 +1,19 @@
 -- What formatx prints of a translated text, piece by piece.
-use Rattle.std.proofs.Common.{◌≡◌, ◌≢◌, ◌⊎◌, inl, inr, ℕ, suc, zero, ◌+◌, ◌-◌, ◌<◌, ◌≤◌, ◌^◌, Bool, true, false, List, [], ◌∷◌, ◌++◌, length, get_or, take, drop, Option, Some, None, Result, Ok, Err, refl, ap, sym, ◌∙◌, subst, arith, append_assoc, length-append}
-use Rattle.std.specs.Prelude.{◌==◌, ◌&&◌, ◌||◌, codes, ⊤, option_map, slice_index, slice_get, not, IsTrue}
-use Rattle.std.specs.Char.{is_ascii_digit}
+use Rattle.std.proofs.Common.{◌≡◌, ◌≢◌, ℕ, suc, zero, ◌+◌, ◌-◌, ◌≤◌, true, false, List, [], ◌∷◌, ◌++◌, length, take, drop, Option, Some, None, Ok, refl, ap, sym, ◌∙◌, arith, length-append}
+use Rattle.std.specs.Prelude.{slice_index, slice_get}
 use Rattle.std.specs.List.{prefix_len}
 use Rattle.std.proofs.lemmas.Bool.Decides.{nat_tests}
 use Rattle.numerals.specs.Numeral.{numeral}
-use Rattle.formatx.specs.Fault.{Fault, ◌>>=◌, between}
-use Rattle.formatx.specs.Words.{begins, after, is_plain}
+use Rattle.formatx.specs.Fault.{between}
+use Rattle.formatx.specs.Words.{after, is_plain}
 use Rattle.formatx.specs.Grammar.{is_single, IsSegment, SpellsTo}
-use Rattle.formatx.specs.Placeholders.{placeholder_of}
 use Rattle.formatx.specs.Scene.{Scene, covered}
 use Rattle.formatx.specs.Values.{Meaning}
 use Rattle.formatx.specs.Counts.{precision_of, width_of}
 use Rattle.formatx.specs.Arguments.{precision_takes}
 use Rattle.formatx.specs.Field.{field_text}
-use Rattle.formatx.specs.Text.{Outcome, continued, rendered, segment_text, segment_takes, placeholder_text, supported, present_text, argument_text}
+use Rattle.formatx.specs.Text.{Outcome, rendered, segment_takes, placeholder_text, supported}
 use Rattle.formatx.specs.declared.ast.Span.{Span}
-use Rattle.formatx.specs.declared.ast.FormatType.{FormatType}
 use Rattle.formatx.specs.declared.ast.Placeholder.{Placeholder}
 use Rattle.formatx.specs.declared.ast.Segment.{Segment}
 use Rattle.formatx.specs.declared.ast.Segment.TheVariants.{Literal, EscapedOpen, EscapedClose, Placeholder as Placed}
@@ -25,7 +22,7 @@ use Rattle.translation.specs.declared.options.Letters.TheVariants.{Unset as NoLe
 use Rattle.translation.specs.declared.options.Options.{Options}
 use Rattle.translation.specs.declared.target.Target.TheVariants.{Formatx}
 use Rattle.translation.specs.Table.{in_braces}
-use Rattle.translation.specs.Inner.Options.{written, behind_colon}
+use Rattle.translation.specs.Inner.Options.{written}
 use Rattle.translation.proofs.Decimals.{Writes, first_digit}
 use Rattle.translation.proofs.Body.{IsBody}
 use Rattle.translation.proofs.FormatxRead.{closing, braces_rest, placeholder_by, placeholder_read, precision_by, count_by, type_by, spec_by, digit_not}

@@ -1,6 +1,6 @@
 -- From a field of the table to its options.
-use Rattle.std.proofs.Common.{◌≡◌, ◌≢◌, ◌⊎◌, inl, inr, ℕ, suc, zero, ◌+◌, ◌-◌, ◌<◌, ◌≤◌, ◌^◌, Bool, true, false, List, [], ◌∷◌, ◌++◌, length, Option, Some, None, IfSome, refl, ap, sym, ◌∙◌, subst, arith}
-use Rattle.std.specs.Prelude.{◌&&◌, ◌==◌, codes, ⊤, option_map, not, if◌then◌else◌, is_some, nat_le, ℤ, pos, negsuc, unsigned_abs}
+use Rattle.std.proofs.Common.{◌≡◌, ℕ, ◌+◌, ◌-◌, ◌<◌, ◌≤◌, ◌^◌, Bool, true, false, List, [], ◌++◌, length, Option, Some, None, IfSome, refl, ap, sym, ◌∙◌, subst, arith}
+use Rattle.std.specs.Prelude.{◌&&◌, ◌==◌, codes, option_map, if◌then◌else◌, is_some, nat_le}
 use Rattle.std.specs.List.{AllByRecursion}
 use Rattle.std.proofs.lemmas.Bool.Decides.{nat_tests}
 use Rattle.numerals.specs.Numeral.{numeral}
@@ -26,9 +26,8 @@ use Rattle.translation.specs.Table.{row_by, row_of, prefix_in, sign_in, least_le
 use Rattle.translation.specs.Inner.Options.{written, plus_text, letters_text, precision_text as point_text}
 use Rattle.translation.specs.Inner.Plans.{decimal_plan, based_plan, text_plan, cutting}
 use Rattle.translation.proofs.Body.{IsBody, IsPrecision}
-use Rattle.translation.proofs.Decimals.{Writes, writes}
-use Rattle.translation.proofs.Numerals.{HasFirst, numeral_first}
-use Rattle.translation.proofs.Values.{lead}
+use Rattle.translation.proofs.Decimals.{writes}
+use Rattle.translation.proofs.Numerals.{numeral_first}
 use Rattle.translation.proofs.Written.{decimal_written, based_written, prefixed, text_written}
 
 pub some_same : {A : Type 0} (x y : A) → (let o : Option A = Some x in o) ≡ Some y → x ≡ y

@@ -1,9 +1,8 @@
 -- What a translated text prints, element by element.
-use Rattle.std.proofs.Common.{◌≡◌, ◌≢◌, ◌⊎◌, inl, inr, ℕ, suc, zero, ◌+◌, ◌-◌, ◌<◌, ◌≤◌, ◌^◌, Bool, true, false, List, [], ◌∷◌, ◌++◌, length, drop, Option, Some, None, Result, Ok, Err, refl, ap, sym, ◌∙◌, subst, arith, append_assoc}
+use Rattle.std.proofs.Common.{◌≡◌, ℕ, ◌+◌, Bool, true, false, List, [], ◌∷◌, ◌++◌, Option, Some, None, Result, Ok, Err, refl, sym, subst, arith, append_assoc}
 use Rattle.std.specs.Prelude.{codes, ⊤, if◌then◌else◌, ◌==◌}
 use Rattle.std.specs.List.{AllByRecursion}
 use Rattle.std.proofs.lemmas.Bool.Decides.{nat_tests}
-use Rattle.sprintf.specs.declared.PrintfError.{PrintfError}
 use Rattle.sprintf.specs.declared.parser.ConversionSpecifier.{ConversionSpecifier}
 use Rattle.sprintf.specs.declared.parser.ConversionType.{ConversionType}
 use Rattle.sprintf.specs.declared.parser.ConversionType.TheVariants.{PercentSign}
@@ -13,7 +12,7 @@ use Rattle.sprintf.specs.declared.parser.NumericParam.{NumericParam}
 use Rattle.sprintf.specs.declared.parser.NumericParam.TheVariants.{Literal, FromArgument}
 use Rattle.sprintf.specs.Field.{number_of}
 use Rattle.sprintf.specs.Meaning.{Meaning}
-use Rattle.sprintf.specs.Printed.{printed, field_by, field_text, wanted, wanted_by, stars, param_of, onto}
+use Rattle.sprintf.specs.Printed.{printed, field_by, field_text, wanted, wanted_by, stars, param_of}
 use Rattle.formatx.specs.Words.{is_plain}
 use Rattle.values.specs.declared.kind.Kind.{Kind}
 use Rattle.values.specs.Datum.{Datum, IsOfKind, printf_meaning, each_of}
@@ -23,7 +22,7 @@ use Rattle.translation.specs.declared.target.Target.{Target}
 use Rattle.translation.specs.Table.{translated_field}
 use Rattle.translation.specs.Translated.{in_front, field_in_front, translated_from}
 use Rattle.translation.specs.Laws.{HasI32, IsAsciiDatum, AreAsciiOf}
-use Rattle.translation.proofs.Found.{AllPlain, Given, given}
+use Rattle.translation.proofs.Found.{AllPlain, given}
 
 front_ok : (text : List ℕ) (r : Result (List ℕ) ℕ) (t : List ℕ) → in_front text r ≡ Ok t → (more : List ℕ) × (r ≡ Ok more) × (t ≡ text ++ more)
 front_ok text (Ok more) t e = (more, refl, sym (ok_same (text ++ more) t e))

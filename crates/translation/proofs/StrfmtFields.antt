@@ -1,6 +1,6 @@
 -- A translated field has in strfmt the text that it has in printf.
-use Rattle.std.proofs.Common.{◌≡◌, ◌≢◌, ◌⊎◌, inl, inr, ℕ, suc, zero, ◌+◌, ◌-◌, ◌<◌, ◌≤◌, ◌^◌, ℤ, pos, negsuc, Bool, true, false, List, [], ◌∷◌, ◌++◌, length, take, Option, Some, None, IfSome, Ok, refl, ap, sym, ◌∙◌, subst, arith, length-append, append_assoc}
-use Rattle.std.specs.Prelude.{◌&&◌, ◌==◌, codes, ⊤, not, nat_le, unsigned_abs, unwrap_or, encode_utf8_all, if◌then◌else◌}
+use Rattle.std.proofs.Common.{◌≡◌, ◌≢◌, ℕ, suc, ◌+◌, ◌-◌, ◌<◌, ◌≤◌, ◌^◌, ℤ, pos, negsuc, Bool, true, false, List, [], ◌∷◌, ◌++◌, length, Option, Some, None, IfSome, Ok, refl, ap, sym, ◌∙◌, subst, arith, length-append, append_assoc}
+use Rattle.std.specs.Prelude.{◌==◌, nat_le, unsigned_abs, unwrap_or, encode_utf8_all, if◌then◌else◌}
 use Rattle.std.specs.Char.{encode_utf8}
 use Rattle.std.specs.Str.{chars, IsAscii}
 use Rattle.std.proofs.lemmas.Bool.Decides.{nat_tests}
@@ -18,35 +18,32 @@ use Rattle.sprintf.specs.Field.{number_of, filled_number, filled_word, cut_to, d
 use Rattle.strfmt.specs.declared.types.Alignment.{Alignment}
 use Rattle.strfmt.specs.declared.types.Alignment.TheVariants.{Unspecified, Left as AtLeft, Right as AtRight}
 use Rattle.strfmt.specs.declared.types.Sign.TheVariants.{Unspecified as NoSign}
-use Rattle.strfmt.specs.Fault.{Outcome}
 use Rattle.strfmt.specs.Field.{sides, shared, laid, cut, integer_field, text_field, plus_of, digits_of as strfmt_digits}
 use Rattle.strfmt.specs.Spec.{align_or}
 use Rattle.values.specs.declared.kind.Kind.{Kind}
 use Rattle.values.specs.declared.kind.Kind.TheVariants.{Word, Char}
-use Rattle.values.specs.Datum.{Datum, natural, integer, word, character, IsOfKind, printf_meaning}
+use Rattle.values.specs.Datum.{Datum, word, character, IsOfKind, printf_meaning}
 use Rattle.values.specs.Templates.{strfmt_meaning}
-use Rattle.row_format.specs.Plannable.{is_number, is_signed}
+use Rattle.row_format.specs.Plannable.{is_signed}
 use Rattle.translation.specs.declared.options.Letters.{Letters}
 use Rattle.translation.specs.declared.options.Letters.TheVariants.{Unset as NoLetters, LowerHex, UpperHex, Octal}
 use Rattle.translation.specs.declared.options.Options.{Options}
 use Rattle.translation.specs.declared.options.Side.{Side}
 use Rattle.translation.specs.declared.options.Side.TheVariants.{Unset, Left, Right, RightOfZeros}
-use Rattle.translation.specs.declared.row.Row.{Row}
-use Rattle.translation.specs.declared.row.Row.TheVariants.{Unpadded, ToLeft, ByZeros, ToRight}
 use Rattle.translation.specs.declared.target.Target.TheVariants.{Strfmt}
 use Rattle.translation.specs.Table.{row_by, prefix_in, least_length, in_braces, suits, field_by, translated_field, precision_text}
 use Rattle.translation.specs.Laws.{HasI32, IsAsciiDatum}
-use Rattle.translation.specs.Inner.Options.{written, plus_text}
+use Rattle.translation.specs.Inner.Options.{written}
 use Rattle.translation.specs.Inner.Plans.{decimal_plan, based_plan, text_plan, cutting}
 use Rattle.translation.proofs.Body.{IsBody}
 use Rattle.translation.proofs.Written.{cutting_written, not_empty}
-use Rattle.translation.proofs.Values.{lead, decimal_text, printed_number, based_printed, is_digits, integer_of, IsNumber, NumberOf, number_of_kind, ascii_of, cut_is, take_whole}
+use Rattle.translation.proofs.Values.{lead, based_printed, is_digits, integer_of, NumberOf, number_of_kind, ascii_of, cut_is, take_whole}
 use Rattle.translation.proofs.Glyphs.{numeral_ascii}
 use Rattle.translation.proofs.FormatxRows.{unfilled, unfilled_word, no_gap}
 use Rattle.translation.proofs.FormatxFields.{plus_lead, decimal_number}
 use Rattle.translation.proofs.StrfmtRead.{align_of, sign_by}
 use Rattle.translation.proofs.StrfmtPieces.{spec_at}
-use Rattle.translation.proofs.Found.{le_true, le_false, from_some, wide, numeral_length, decimal_body, based_body, precision_body, text_body, AllPlain, DecimalFound, decimal_found_of, BasedFound, based_found_of, text_found_of, is_word, is_character, Given, given}
+use Rattle.translation.proofs.Found.{le_true, le_false, from_some, wide, numeral_length, decimal_body, based_body, precision_body, text_body, AllPlain, DecimalFound, decimal_found_of, BasedFound, based_found_of, text_found_of, is_word, is_character, given}
 
 -- a text between its spaces
 back : (text : List ℕ) → IsAscii text → encode_utf8_all (chars text) ≡ text

@@ -1,6 +1,6 @@
 -- The template of strfmt prints what the format of printf prints.
-use Rattle.std.proofs.Common.{◌≡◌, ◌≢◌, ℕ, suc, zero, ◌+◌, ◌-◌, ◌<◌, ◌≤◌, ◌^◌, Bool, true, false, List, [], ◌∷◌, ◌++◌, length, Option, Some, None, Result, Ok, Err, refl, ap, sym, ◌∙◌, subst, arith, append_assoc, length-append}
-use Rattle.std.specs.Prelude.{codes, ⊤, bytes_eq}
+use Rattle.std.proofs.Common.{◌≡◌, ℕ, suc, ◌+◌, ◌<◌, ◌^◌, Bool, true, false, List, [], ◌∷◌, ◌++◌, length, Option, Some, None, Ok, refl, ap, sym, ◌∙◌, subst, arith, append_assoc, length-append}
+use Rattle.std.specs.Prelude.{bytes_eq}
 use Rattle.std.specs.Str.Parse.{digits_value}
 use Rattle.std.proofs.lemmas.Slice.Eq.{bytes_eq-Decides}
 use Rattle.numerals.specs.Numeral.{numeral}
@@ -9,7 +9,7 @@ use Rattle.sprintf.specs.declared.parser.ConversionSpecifier.{ConversionSpecifie
 use Rattle.sprintf.specs.declared.parser.FormatElement.TheVariants.{Format}
 use Rattle.strfmt.specs.Text.{Meaning}
 use Rattle.values.specs.declared.kind.Kind.{Kind}
-use Rattle.values.specs.Datum.{Datum, IsOfKind, printf_meaning, each_of}
+use Rattle.values.specs.Datum.{Datum, IsOfKind, each_of}
 use Rattle.values.specs.Templates.{strfmt_meaning}
 use Rattle.printer.specs.Prints.{value_at_key}
 use Rattle.translation.specs.declared.options.Options.{Options}
@@ -17,11 +17,11 @@ use Rattle.translation.specs.declared.target.Target.TheVariants.{Strfmt}
 use Rattle.translation.specs.Table.{translated_field, in_braces}
 use Rattle.translation.specs.Inner.Options.{written}
 use Rattle.translation.specs.Laws.{HasI32, IsAsciiDatum, AreAsciiOf, PrintsTheSame}
-use Rattle.translation.proofs.Decimals.{Writes, writes}
+use Rattle.translation.proofs.Decimals.{writes}
 use Rattle.translation.proofs.StrfmtRead.{strfmt_text}
 use Rattle.translation.proofs.StrfmtPieces.{Cut, cut_end, cut_plain, cut_open, cut_close, cut_field}
-use Rattle.translation.proofs.StrfmtFields.{StrfmtField, strfmt_field}
-use Rattle.translation.proofs.Induction.{FieldShown, AllShown, plain_front, AllAt, shown_from}
+use Rattle.translation.proofs.StrfmtFields.{strfmt_field}
+use Rattle.translation.proofs.Induction.{FieldShown, plain_front, AllAt, shown_from}
 
 is_false : (b : Bool) → ¬ (b ≡ true) → b ≡ false
 is_false true h = absurd (h refl)

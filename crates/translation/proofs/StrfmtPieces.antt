@@ -1,6 +1,6 @@
 -- What strfmt prints of a translated text, piece by piece.
-use Rattle.std.proofs.Common.{◌≡◌, ◌≢◌, ◌⊎◌, inl, inr, ℕ, suc, zero, ◌+◌, ◌<◌, ◌≤◌, ◌^◌, Bool, true, false, List, [], ◌∷◌, ◌++◌, length, get_or, drop, take, Option, Some, None, Result, Ok, Err, refl, ap, sym, ◌∙◌, subst, arith, append_assoc}
-use Rattle.std.specs.Prelude.{◌==◌, ◌&&◌, codes, ⊤, slice_index, nat_lt, not, is_some, is_none, if◌then◌else◌}
+use Rattle.std.proofs.Common.{◌≡◌, ◌≢◌, inl, inr, ℕ, suc, ◌+◌, ◌≤◌, Bool, true, false, List, [], ◌∷◌, ◌++◌, length, drop, take, Option, Some, None, Ok, refl, ap, sym, ◌∙◌, subst, arith, append_assoc}
+use Rattle.std.specs.Prelude.{◌==◌, ◌&&◌, nat_lt, not, is_some, is_none}
 use Rattle.std.specs.Char.{is_ascii_digit}
 use Rattle.std.specs.List.{prefix_len}
 use Rattle.std.specs.Str.{all_ascii_digits}
@@ -8,12 +8,12 @@ use Rattle.std.proofs.lemmas.Bool.Decides.{nat_tests}
 use Rattle.std.proofs.lemmas.List.{append-nil}
 use Rattle.std.proofs.Math.Seq.{take-append_seam}
 use Rattle.numerals.specs.Numeral.{numeral}
-use Rattle.strfmt.specs.Fault.{first_failure, Outcome}
-use Rattle.strfmt.specs.Parts.{Parts, IsWritten}
-use Rattle.strfmt.specs.Pattern.{is_too_large, type_checks, checks_of, spec_of, key_of, specification_of, first_cause, read_as, IsRead}
+use Rattle.strfmt.specs.Fault.{first_failure}
+use Rattle.strfmt.specs.Parts.{IsWritten}
+use Rattle.strfmt.specs.Pattern.{is_too_large, type_checks, spec_of, key_of, specification_of, first_cause, read_as, IsRead}
 use Rattle.strfmt.specs.Piece.{Piece, ordinary, escape, pattern, IsNoBrace, HasNoBrace, IsCut}
 use Rattle.strfmt.specs.Spec.{Spec, View}
-use Rattle.strfmt.specs.Text.{Meaning, filled_by, then_next, joined}
+use Rattle.strfmt.specs.Text.{Meaning, joined}
 use Rattle.formatx.specs.Words.{is_plain}
 use Rattle.translation.specs.declared.options.Letters.{Letters}
 use Rattle.translation.specs.declared.options.Letters.TheVariants.{Unset as NoLetters, LowerHex, UpperHex, Octal}
@@ -23,7 +23,7 @@ use Rattle.translation.specs.declared.target.Target.TheVariants.{Strfmt}
 use Rattle.translation.specs.Table.{in_braces}
 use Rattle.translation.specs.Inner.Options.{side_text, plus_text, width_text, precision_text, letters_text, behind_colon}
 use Rattle.translation.proofs.Braces.{braces}
-use Rattle.translation.proofs.Decimals.{Writes, run_length, lt_true}
+use Rattle.translation.proofs.Decimals.{Writes, run_length}
 use Rattle.translation.proofs.Body.{is_quiet, AllQuiet, IsWidth, IsPrecision, quiet_append, quiet_plus, quiet_width, quiet_precision, quiet_letters, quiet_digits}
 use Rattle.translation.proofs.StrfmtRead.{parts_of, strfmt_text, is_written}
 

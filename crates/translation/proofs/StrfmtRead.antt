@@ -1,31 +1,23 @@
 -- How strfmt reads a translated field.
 use Rattle.std.proofs.Common.{◌≡◌, ◌≢◌, ◌⊎◌, inl, inr, ℕ, suc, zero, ◌+◌, ◌<◌, ◌≤◌, ◌^◌, Bool, true, false, List, [], ◌∷◌, ◌++◌, length, get_or, drop, take, Option, Some, None, Result, Ok, Err, refl, ap, sym, ◌∙◌, subst, arith, append_assoc}
-use Rattle.std.specs.Prelude.{◌==◌, ◌&&◌, ◌||◌, codes, ⊤, slice_index, nat_lt, not, is_some, is_none, if◌then◌else◌}
+use Rattle.std.specs.Prelude.{◌==◌, slice_index, is_some}
 use Rattle.std.specs.Char.{is_ascii_digit, encode_utf8}
-use Rattle.std.specs.List.{prefix_len, before_first, after_first}
-use Rattle.std.specs.Str.{all_ascii_digits}
 use Rattle.std.specs.Str.Parse.{digits_value}
 use Rattle.std.proofs.lemmas.Bool.Decides.{nat_tests}
-use Rattle.std.proofs.lemmas.List.{append-nil}
 use Rattle.std.proofs.lemmas.Str.{length-encode, len_utf8_bounds}
-use Rattle.std.proofs.Math.Seq.{take-append_seam}
 use Rattle.numerals.specs.Numeral.{numeral}
 use Rattle.strfmt.specs.declared.types.Alignment.{Alignment}
 use Rattle.strfmt.specs.declared.types.Alignment.TheVariants.{Left as AtLeft, Right as AtRight}
 use Rattle.strfmt.specs.declared.types.Sign.{Sign}
 use Rattle.strfmt.specs.declared.types.Sign.TheVariants.{Plus}
-use Rattle.strfmt.specs.Fault.{first_failure}
-use Rattle.strfmt.specs.Parts.{alignment_of, sign_of, IsMark, IsFlag, HasNoFill, IsFilled, IsZero as IsZeroFlag, number_of, IsNumber, IsPrecision as IsPrecisionPart, Parts, IsWritten}
-use Rattle.strfmt.specs.Pattern.{is_too_large, checks_of, type_checks, spec_of, key_of, specification_of, first_cause, read_as, IsRead}
-use Rattle.strfmt.specs.Spec.{Spec, View}
+use Rattle.strfmt.specs.Parts.{alignment_of, sign_of, IsMark, IsFlag, HasNoFill, IsFilled, number_of, IsNumber, IsPrecision as IsPrecisionPart, Parts, IsWritten}
 use Rattle.translation.specs.declared.options.Letters.{Letters}
 use Rattle.translation.specs.declared.options.Letters.TheVariants.{Unset as NoLetters, LowerHex, UpperHex, Octal}
-use Rattle.translation.specs.declared.options.Options.{Options}
 use Rattle.translation.specs.declared.options.Side.{Side}
 use Rattle.translation.specs.declared.options.Side.TheVariants.{Unset, Left, Right, RightOfZeros}
 use Rattle.translation.specs.declared.target.Target.TheVariants.{Strfmt}
-use Rattle.translation.specs.Inner.Options.{written, side_text, plus_text, width_text, precision_text, letters_text, behind_colon}
-use Rattle.translation.proofs.Decimals.{Writes, first_digit, lt_true, run_length}
+use Rattle.translation.specs.Inner.Options.{side_text, plus_text, width_text, precision_text, letters_text}
+use Rattle.translation.proofs.Decimals.{Writes, first_digit}
 use Rattle.translation.proofs.Body.{is_quiet, AllQuiet, IsWidth, IsPrecision, quiet_append, quiet_plus, quiet_width, quiet_precision, quiet_letters}
 
 abbrev pub align_of : Side → Option Alignment

@@ -1,10 +1,10 @@
 -- What numbers, words and characters are to printf and to the templates.
-use Rattle.std.proofs.Common.{◌≡◌, ◌≢◌, ◌⊎◌, inl, inr, ℕ, suc, zero, ◌+◌, ◌-◌, ◌<◌, ◌≤◌, min, ℤ, pos, negsuc, Bool, true, false, List, [], ◌∷◌, ◌++◌, length, take, Option, Some, None, Result, Ok, Err, refl, ap, sym, ◌∙◌, subst, arith}
-use Rattle.std.specs.Prelude.{◌&&◌, ◌==◌, codes, ⊤, not, if◌then◌else◌, unsigned_abs, slice_index, encode_utf8_all, IsTrue}
+use Rattle.std.proofs.Common.{◌≡◌, ◌≢◌, ℕ, suc, zero, ◌+◌, ◌-◌, ◌<◌, ◌≤◌, min, ℤ, pos, negsuc, Bool, true, false, List, [], ◌∷◌, length, take, Some, None, Result, Ok, refl, ap, sym, ◌∙◌, arith}
+use Rattle.std.specs.Prelude.{◌&&◌, ◌==◌, codes, not, if◌then◌else◌, unsigned_abs, slice_index}
 use Rattle.std.specs.Fmt.Cut.{floor_char_boundary}
 use Rattle.std.specs.Int.{is_negative, cast_unsigned, w8, w16, w32, w64}
 use Rattle.std.specs.List.{AllByRecursion}
-use Rattle.std.specs.Str.{IsAscii, chars}
+use Rattle.std.specs.Str.{IsAscii}
 use Rattle.std.proofs.lemmas.Bool.Decides.{nat_tests}
 use Rattle.std.proofs.lemmas.Str.{chars-IsAscii, encodes-IsAscii, IsAscii-take}
 use Rattle.std.proofs.lemmas.Str.Ascii.{IsAscii-cons}
@@ -21,7 +21,7 @@ use Rattle.formatx.specs.Field.{cut}
 use Rattle.formatx.specs.Values.{integer_meaning}
 use Rattle.values.specs.declared.kind.Kind.{Kind}
 use Rattle.values.specs.declared.kind.Kind.TheVariants.{U8, U16, U32, U64, Usize, I8, I16, I32, I64, Isize, Word, Char}
-use Rattle.values.specs.Datum.{Datum, natural, integer, word, character, IsOfKind, printf_meaning}
+use Rattle.values.specs.Datum.{Datum, natural, integer, IsOfKind, printf_meaning}
 use Rattle.values.specs.Templates.{strfmt_meaning, formatx_meaning}
 use Rattle.row_format.specs.Plannable.{is_number, is_signed}
 use Rattle.translation.specs.Inner.Plans.{cutting}
