@@ -67,7 +67,7 @@ fn parse_strfmt(alloc: Global, template: &str) -> Result<Parsed<'_>, PrinterErro
 }
 
 /// The segments of a formatx template.
-fn parse_formatx<'t>(alloc: Global, template: &'t str) -> Result<Parsed<'t>, PrinterError>
+fn parse_formatx(alloc: Global, template: &str) -> Result<Parsed<'_>, PrinterError>
     ensures stands { IfOk result (λ parsed. StandsFor parsed template.now) }
     ensures dialect { IfOk result (λ parsed. dialect_of parsed ≡ Dialect.Formatx) }
     ensures template { OnOk result (IsTemplateOf Dialect.Formatx template.now) }

@@ -1,0 +1,5 @@
+pub mod Ascii
+pub mod Escaped
+pub mod Lines
+pub mod Texts
+pub mod Widths

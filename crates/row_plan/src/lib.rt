@@ -1,8 +1,13 @@
 //! Plans rows: derives from a printf format the scanning format that reads rows back, and reads rows by it.
 #![tactic(auto)]
 
+mod characters;
 mod error;
+mod printing;
+mod reading;
 mod rows;
+mod text;
+mod token;
 
 pub use error::{PlanError, RowError};
 pub use rows::{RowPlan, plan};

@@ -1,13 +1,21 @@
 // A plan, and the rows that it reads.
-ghost use Rattle.std.specs.Prelude.{◌≡◌, IfOk, IfErr, OnOk};
+ghost use Rattle.std.specs.Prelude.{◌≡◌, ◌↔◌, length, IsTrue, IfOk, IfErr, OnOk};
 ghost use Rattle.std.specs.Str.{chars};
 ghost use Rattle.row_format.specs.Columns.{columns_of};
 ghost use Rattle.row_format.specs.Plannable.{IsPlannable};
 ghost use Rattle.row_format.specs.Planned.{planned_text};
 ghost use Rattle.row_plan.specs.Plan.{RefusesPlan, IsRead, RefusesRow};
+ghost use Rattle.row_plan.specs.Inner.Reading.{NoneWider};
 
+use crate::printing::print_row;
+use crate::reading::read_tokens;
+use crate::text::planned_text;
 use crate::{PlanError, RowError};
-use row_format::RowFormat;
+use numerals::NoMemory;
+use row_format::{RowField, RowFormat};
+use row_laws::{has_one_list, reads_back, reads_to_one_list};
+use scan_fmt::parse::Format;
+use separation::judge;
 use sprintf::parser::FormatElement;
 use std::alloc::Global;
 use std::marker::Model;
@@ -32,7 +40,32 @@ impl Model for RowPlan {
 
     ghost view = { λ it. record { format = it.format; kinds = it.kinds.items } };
 
-    ghost invariant = { λ it. IsPlannable it.format.columns it.kinds.items × (string_bytes it.text ≡ planned_text it.format it.kinds.items) };
+    ghost invariant = { λ it. IsText it.format × IsPlannable it.format.columns it.kinds.items × (string_bytes it.text ≡ planned_text it.format it.kinds.items) };
+}
+
+/// A copy of the kinds.
+fn copy(alloc: Global, kinds: &[Kind]) -> Result<Vec<Kind>, NoMemory>
+    ensures { IfOk result (λ copies. copies.items ≡ kinds.now) }
+{
+    kinds.to_vec(alloc).map_err(|_| NoMemory)
+}
+
+/// Whether a field is wider than the line is long.
+fn is_too_short(fields: &[RowField], line: &str) -> bool
+    ensures { IsTrue result → ¬ NoneWider (length line.now) fields.now }
+{
+    'fields: for field in fields {
+        if field.width() > line.len() {
+            return true;
+        }
+    }
+    false
+}
+
+fn is_same(text: &str, line: &str) -> bool
+    ensures { IsTrue result ↔ (text.now ≡ line.now) }
+{
+    text == line
 }
 
 /// Plans the rows of a format, with one kind for each of its fields. It is refused exactly where the format can't be read back.
@@ -45,7 +78,17 @@ pub fn plan(
     ensures plannable { OnOk result (IsPlannable (columns_of elements.now).columns kinds.now) }
     ensures refused { IfErr result (RefusesPlan (columns_of elements.now).columns kinds.now) }
 {
-    Err(PlanError::NoMemory)
+    let format = RowFormat::new(alloc, elements)?;
+    if let Some(why) = judge(&format, kinds) {
+        return Err(PlanError::Refused(why));
+    }
+    let text = planned_text(alloc, &format, kinds)?;
+    let kinds = copy(alloc, kinds)?;
+    Ok(RowPlan {
+        format,
+        kinds,
+        text,
+    })
 }
 
 impl RowPlan {
@@ -77,14 +120,15 @@ impl RowPlan {
         ensures ok { IfOk result (λ values. IsRead self.now line.now values.items) }
         ensures refused { IfErr result (RefusesRow self.now line.now) }
     {
-        Err(RowError::NoMemory)
+        let format = Format::new(alloc, self.format_text())?;
+        self.read_row_by(alloc, &format, line, again)
     }
 
-    /// The same, by the scanning format, so that it is cut once for many rows.
+    /// The same, with the scanning format, which was cut before.
     pub fn read_row_by(
         &self,
         alloc: Global,
-        format: &scan_fmt::parse::Format<'_>,
+        format: &Format<'_>,
         line: &str,
         again: &mut String,
     ) -> Result<Vec<Value>, RowError>
@@ -92,6 +136,19 @@ impl RowPlan {
         ensures ok { IfOk result (λ values. IsRead self.now line.now values.items) }
         ensures refused { IfErr result (RefusesRow self.now line.now) }
     {
-        Err(RowError::NoMemory)
+        reads_back();
+        reads_to_one_list();
+        has_one_list();
+        let fields = self.format.fields();
+        if is_too_short(fields, line) {
+            return Err(RowError::NotARow);
+        }
+        let mut tokens = format.scan_slices(alloc, line)?;
+        let values = read_tokens(alloc, &mut tokens, fields, &self.kinds)?;
+        print_row(alloc, again, &self.format, &values)?;
+        if !is_same(again.as_str(), line) {
+            return Err(RowError::NotARow);
+        }
+        Ok(values)
     }
 }

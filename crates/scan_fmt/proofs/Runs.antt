@@ -3,14 +3,10 @@ use Rattle.std.proofs.Common.{eqb, ◌≡◌, ◌≢◌, ◌<◌, ◌≤◌, ◌
 use Rattle.std.specs.List.{AllByRecursion}
 use Rattle.std.specs.Str.{chars, IsUtf8, IsCharBoundary}
 use Rattle.std.proofs.lemmas.Bool.{cases_Bool, eqb-true, ne_eqb}
-use Rattle.std.proofs.lemmas.Bool.Decides.{nat_tests}
 use Rattle.std.proofs.lemmas.List.{take-append-drop, append_cancel_left}
 use Rattle.scan_fmt.specs.Sets.{is_between, is_in_ranges}
 use Rattle.scan_fmt.specs.Scanned.{IsLongest, Within}
 use Rattle.scan_fmt.proofs.Characters.{ascii_cut, ascii_longest}
-
-pub not_between : (low high c : ℕ) → (low ≤ c → c ≤ high → ⊥) → is_between low high c ≡ false
-not_between low high c out = grind (arith, nat_tests)
 
 pub ranges_pair : (low high c : ℕ) (rest : List ℕ) → is_between low high c ≡ false → is_in_ranges (low ∷ 45 ∷ high ∷ rest) c ≡ is_in_ranges rest c
 ranges_pair low high c rest h = rw h refl

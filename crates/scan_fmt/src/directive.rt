@@ -12,6 +12,7 @@ ghost use Rattle.scan_fmt.specs.Sets.{IsListing};
 
 use crate::expression::Expression;
 use crate::number::digits_len;
+use crate::set::Set;
 use crate::text::{before, first, skip_blanks, split_first, strip};
 use numerals::NoMemory;
 use std::alloc::Global;
@@ -24,7 +25,7 @@ pub enum Run<'f> {
     /// All but white space.
     Solid,
     /// Those that are listed, or, inverted, those that aren't.
-    Among { inverted: bool, listing: &'f str },
+    Among { inverted: bool, set: Set<'f> },
 }
 
 /// How a number is written.
@@ -157,7 +158,8 @@ fn set(text: &str) -> Option<(Body<'_>, &str)>
 fn among(inverted: bool, listing: &str) -> Body<'_>
     ensures { body_of result ≡ Shaped (Characters (Among inverted (chars listing.now))) }
 {
-    Body::Takes(Shape::Characters(Run::Among { inverted, listing }))
+    let set = Set::new(listing);
+    Body::Takes(Shape::Characters(Run::Among { inverted, set }))
 }
 
 /// The pattern of an expression, and what follows the slash that ends it.

@@ -6,7 +6,6 @@ ghost use Rattle.std.specs.Str.Parse.{without_leading_plus};
 ghost use Rattle.scan_fmt.specs.Scanned.{IsLongest, IsNumber, Suits, MayTake, without_0x, token_text};
 ghost use Rattle.scan_fmt.specs.Directives.{Number, Exactly, Field, Expression as Finds};
 ghost use Rattle.scan_fmt.specs.Inner.Parts.{run_of, notation_of, shape_of, directive_of, IsPass, LiesIn};
-ghost use Rattle.scan_fmt.specs.Sets.{is_in_ranges, is_listed};
 
 use crate::directive::{Directive, Notation, Run, Shape};
 use crate::expression::{Expression, Found};
@@ -14,50 +13,6 @@ use crate::number::{float_len, prefixed_len, signed_len};
 use crate::text::{before, is_blank, split_first, strip};
 use numerals::NoMemory;
 use std::alloc::Global;
-
-/// The other end of a range, where a dash stands in front, and what follows it.
-fn range_end(text: &str) -> Option<(char, &str)>
-    ensures none { IfNone result ((z : ℕ) (rest : List ℕ) → chars text.now ≡ byte "-" ∷ z ∷ rest → ⊥) }
-    ensures some { IfSome result (λ p. chars text.now ≡ byte "-" ∷ p.0 ∷ chars p.1.now) }
-    ensures shorter { IfSome result (λ p. length p.1.now < length text.now) }
-{
-    split_first(strip(text, '-')?)
-}
-
-fn is_in_ranges(ranges: &str, c: char) -> bool
-    ensures { result ≡ is_in_ranges (chars ranges.now) c }
-{
-    let mut ranges = ranges;
-    'listed: while let Some((low, rest)) = split_first(ranges) {
-        if let Some((high, rest)) = range_end(rest) {
-            if low <= c && c <= high {
-                return true;
-            }
-            ranges = rest;
-        } else {
-            if c == low {
-                return true;
-            }
-            ranges = rest;
-        }
-    }
-    false
-}
-
-fn is_listed(listing: &str, c: char) -> bool
-    ensures { result ≡ is_listed (chars listing.now) c }
-{
-    match split_first(listing) {
-        Some((first, rest)) => {
-            if first == '-' || first == ']' {
-                c == first || is_in_ranges(rest, c)
-            } else {
-                is_in_ranges(listing, c)
-            }
-        }
-        None => false,
-    }
-}
 
 /// What a number with this limit may reach over.
 fn within(input: &str, limit: Option<usize>) -> &[u8]
@@ -93,7 +48,7 @@ impl Run<'_> {
         match self {
             Run::Until(stop) => !is_blank(c) && *stop != Some(c),
             Run::Solid => !is_blank(c),
-            Run::Among { inverted, listing } => is_listed(listing, c) != *inverted,
+            Run::Among { inverted, set } => set.has(c) != *inverted,
         }
     }
 

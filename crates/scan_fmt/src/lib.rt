@@ -7,5 +7,6 @@ mod field;
 mod number;
 pub mod parse;
 mod read;
+mod set;
 mod slices;
 mod text;

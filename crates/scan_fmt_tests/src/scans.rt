@@ -6,7 +6,7 @@ use std::process::Abort;
 use std::test::Fail;
 
 // Each line is a format, an input, and the tokens with a semicolon after each: literals, runs and the ends of both texts; then
-// numbers and their limits; then sets and malformed fields.
+// numbers and their limits; then sets, also past ASCII, and malformed fields.
 const SCANS: &str = "\
     data {d}-{d}={d}\t data 42-12=30\t42;12;30;\n\
     {d} hi{e}\t12 hi2\t;\n\
@@ -71,6 +71,9 @@ const SCANS: &str = "\
     {[]-a]}{s}\tabc-]^\ta;bc-]^;\n\
     {[^é]}{s}\tabc-]^\tabc-]^;\n\
     {0[0-9]}{s}\t1234 56\t1234;56;\n\
+    {[y-ä]}{s}\tz~äåx\tz~ä;åx;\n\
+    {[^y-ä]}{s}\tåxz\tåx;z;\n\
+    {[é-éa]}{s}\taéb\taé;b;\n\
     {[^a-c]}a\txyza5 \txyz;\n\
     {[a-]]}{s}\tabc-]^\t\n\
     {d}{[^\t7abab\t7;\n\

@@ -1,8 +1,8 @@
 -- What the table says that a field doesn't take, it never takes.
-use Rattle.std.proofs.Common.{eqb, cond, ◌≡◌, ◌≢◌, ◌⊎◌, ◌&&◌, ◌||◌, not, ◌<◌, ◌≤◌, ◌+◌, ◌-◌, ◌^◌, ℕ, zero, suc, ℤ, pos, negsuc, Bool, true, false, List, [], ◌∷◌, ◌++◌, length, replicate, Option, Some, None, FitsSigned, sym, ap, subst, refl, inl, inr, ◌∙◌, arith, encode_utf8, nat_le, nat_lt, unsigned_abs}
+use Rattle.std.proofs.Common.{eqb, cond, ◌≡◌, ◌≢◌, ◌⊎◌, ◌&&◌, ◌||◌, ◌<◌, ◌≤◌, ◌-◌, ℕ, zero, suc, ℤ, pos, negsuc, Bool, true, false, List, [], ◌∷◌, ◌++◌, length, replicate, Option, Some, None, FitsSigned, sym, ap, subst, refl, inl, inr, ◌∙◌, arith, encode_utf8, nat_le, nat_lt, unsigned_abs}
 use Rattle.std.specs.Char.{digit_value, IsScalar, len_utf8}
 use Rattle.std.specs.Str.{chars, IsUtf8}
-use Rattle.std.proofs.lemmas.Bool.{cases_Bool, cases_lt, eqb-false, eqb-true, ltb-false, ltb-true, leb-true, leb-false, and_parts, or_parts, or_cases}
+use Rattle.std.proofs.lemmas.Bool.{cases_Bool, cases_lt, eqb-false, eqb-true, ltb-false, ltb-true, leb-false, and_parts, or_parts, or_cases}
 use Rattle.std.proofs.lemmas.Bool.Decides.{nat_tests}
 use Rattle.std.proofs.lemmas.Str.{length-encode, len_utf8_bounds, len_utf8_ascii}
 use Rattle.sprintf.specs.declared.parser.ConversionSpecifier.{ConversionSpecifier}
@@ -10,19 +10,17 @@ use Rattle.sprintf.specs.declared.parser.ConversionType.{ConversionType}
 use Rattle.sprintf.specs.declared.parser.ConversionType.TheVariants.{DecInt, OctInt, HexIntLower, HexIntUpper, Char as CharConversion, String}
 use Rattle.sprintf.specs.declared.parser.NumericParam.TheVariants.{FromArgument}
 use Rattle.sprintf.specs.Field.{digits_of, sign_of}
-use Rattle.scan_fmt.specs.Directives.{first, Until}
-use Rattle.scan_fmt.specs.Scanned.{Suits}
+use Rattle.scan_fmt.specs.Directives.{first}
 use Rattle.values.specs.declared.kind.Kind.{Kind}
 use Rattle.values.specs.declared.kind.Kind.TheVariants.{Word, Char}
 use Rattle.values.specs.Datum.{Datum, natural, integer, word, character, IsOfKind}
 use Rattle.row_format.specs.Columns.{Column, field_text, columns_text, width_of}
-use Rattle.row_format.specs.Fit.{stop, Takes, IsFit, AreFit}
-use Rattle.row_format.specs.Plannable.{IsPaired, IsUnpaired, Never, is_number, greatest_length, BeginsTaken}
-use Rattle.separation.specs.declared.table.Opening.{Opening}
+use Rattle.row_format.specs.Fit.{stop, Takes}
+use Rattle.row_format.specs.Plannable.{IsPaired, IsUnpaired, Never, is_number, greatest_length}
 use Rattle.separation.specs.declared.table.Opening.TheVariants.{Space, Sign, Wide, Digit, Any}
 use Rattle.separation.specs.Inner.Table.{is_signed_decimal, field_opening, number_opening, character_opening, is_taken, is_text, is_opening_taken}
-use Rattle.separation.specs.Inner.Touching.{TakesSome, IsFollowed}
-use Rattle.separation.proofs.Sorts.{IsDigits, converts_digits, width_of_kind, number_form, number_field, room_of, prefix, bit_texts, decimal_texts, decimal_is}
+use Rattle.separation.specs.Inner.Touching.{IsFollowed}
+use Rattle.separation.proofs.Sorts.{IsDigits, converts_digits, width_of_kind, number_form, number_field, room_of, decimal_texts}
 use Rattle.separation.proofs.Lengths.{decimal_room}
 use Rattle.separation.proofs.Texts.{first_ascii, first_char, first_of_text, first_none, same_some}
 use Rattle.separation.proofs.Words.{word_form, converts_character, character_is, all_plain}
@@ -172,9 +170,9 @@ module _ (v : ConversionType) (f : ConversionSpecifier) (kind : Kind) (number : 
     | inl k ↦ let both = and_parts (is_signed_decimal f.conversion_type kind) (f.force_sign || f.space_sign) k.0 in flags_clear both.0 both.1 k.1
     | inr (inl k) ↦ let sides = or_parts f.left_adj f.zero_pad k.0 in wide_clear sides.0 sides.1 (ltb-true (greatest_length f kind) (width_of f) k.1)
     | inr (inr k) ↦
-      let sides = or_parts f.left_adj f.zero_pad k.0 in
-      let both = and_parts (eqb (width_of f) (greatest_length f kind)) (is_signed_decimal f.conversion_type kind) k.1 in
-      just_clear sides.0 sides.1 (eqb-true (width_of f) (greatest_length f kind) both.0) both.1 k.2
+        let sides = or_parts f.left_adj f.zero_pad k.0 in
+        let both = and_parts (eqb (width_of f) (greatest_length f kind)) (is_signed_decimal f.conversion_type kind) k.1 in
+        just_clear sides.0 sides.1 (eqb-true (width_of f) (greatest_length f kind) both.0) both.1 k.2
   ]
 
 -- ---- the opening of a character
@@ -221,10 +219,10 @@ opening_clear v c kind x rest paired is h =
     head_clear v (field_text c.field kind x ++ rest) (head_front v (field_text c.field kind x) rest (number_clear v c.field kind refl (converts_digits c.field.conversion_type kind refl paired.0) paired.1 x is h))
 
 -- a field without literal text behind it
-stop_none : (c : Column) → c.after ≡ [] → stop c ≡ None
+pub stop_none : (c : Column) → c.after ≡ [] → stop c ≡ None
 stop_none c none = ap (λ (t : List ℕ). first (chars t)) none ∙ first_none
 
-behind_none : (c : Column) (text : List ℕ) → c.after ≡ [] → c.after ++ text ≡ text
+pub behind_none : (c : Column) (text : List ℕ) → c.after ≡ [] → c.after ++ text ≡ text
 behind_none c text none = ap (λ (t : List ℕ). t ++ text) none
 
 pub not_followed : (c next : Column) (cs : List Column) (kind : Kind) (kinds : List Kind) → c.after ≡ [] → IsPaired next kind → is_opening_taken c.field.conversion_type (field_opening next.field kind) ≡ false → IsFollowed c (next ∷ cs) (kind ∷ kinds) → ⊥

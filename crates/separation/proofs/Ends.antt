@@ -1,5 +1,5 @@
 -- Which fields may touch what is behind them.
-use Rattle.std.proofs.Common.{cond, ◌≡◌, ◌≢◌, ◌||◌, not, ◌<◌, ◌≤◌, ◌+◌, ◌-◌, ◌^◌, ℕ, zero, suc, ℤ, pos, negsuc, Bool, true, false, List, [], ◌∷◌, ◌++◌, length, replicate, Some, FitsSigned, sym, ap, subst, refl, inl, inr, ◌∙◌, arith, append-nil, encode_utf8, nat_le, unsigned_abs}
+use Rattle.std.proofs.Common.{◌≡◌, ◌≢◌, ◌<◌, ◌≤◌, ◌+◌, ◌-◌, ◌^◌, ℕ, zero, suc, ℤ, pos, negsuc, Bool, true, false, List, [], ◌∷◌, ◌++◌, length, replicate, FitsSigned, sym, ap, subst, refl, inl, inr, ◌∙◌, arith, append-nil, encode_utf8, unsigned_abs}
 use Rattle.std.specs.Char.{IsScalar}
 use Rattle.std.specs.Int.{Width, w8, w16, w32, w64, w128}
 use Rattle.std.proofs.lemmas.Bool.{cases_Bool, leb-true, leb-false}
@@ -13,20 +13,18 @@ use Rattle.sprintf.specs.declared.parser.ConversionType.{ConversionType}
 use Rattle.sprintf.specs.declared.parser.ConversionType.TheVariants.{OctInt, HexIntLower, HexIntUpper}
 use Rattle.sprintf.specs.declared.parser.NumericParam.TheVariants.{FromArgument}
 use Rattle.sprintf.specs.Field.{digits_of, sign_of}
-use Rattle.scan_fmt.specs.Directives.{Until}
-use Rattle.scan_fmt.specs.Scanned.{Suits}
 use Rattle.values.specs.declared.kind.Kind.{Kind}
 use Rattle.values.specs.declared.kind.Kind.TheVariants.{Word, Char}
 use Rattle.values.specs.Datum.{Datum, natural, integer, word, character, IsOfKind}
 use Rattle.row_format.specs.Columns.{Column, field_text, width_of}
-use Rattle.row_format.specs.Fit.{stop, IsFit}
+use Rattle.row_format.specs.Fit.{stop}
 use Rattle.row_format.specs.Plannable.{IsPaired, is_number, greatest_length, trailing_spaces}
 use Rattle.separation.specs.Inner.Table.{may_fill, is_signed_decimal}
 use Rattle.separation.specs.Inner.Touching.{IsWhole, Touches}
-use Rattle.separation.proofs.Sorts.{IsDigits, converts_digits, width_of_kind, number_form, number_field, room_of, prefix, bit_texts, decimal_texts, decimal_is}
+use Rattle.separation.proofs.Sorts.{IsDigits, converts_digits, width_of_kind, number_form, number_field, room_of, prefix, bit_texts, decimal_texts}
 use Rattle.separation.proofs.Lengths.{bits_most, bits_long, decimal_most, decimal_least}
 use Rattle.separation.proofs.Texts.{EndsSolid, solid_trail, solid_behind, room_trail, digits_solid}
-use Rattle.separation.proofs.Words.{word_form, precision_is, converts_word, converts_character, word_is, character_is, other_than, other_by, other_suits, word_fits, character_fits, number_fits, letter_for, letter_suits, letter_low, plain}
+use Rattle.separation.proofs.Words.{word_form, precision_is, converts_word, converts_character, word_is, character_is, other_than, other_by, other_suits, word_fits, character_fits, number_fits, letter_for, letter_suits, letter_low}
 
 -- ---- numbers
 
@@ -92,23 +90,23 @@ module _ (f : ConversionSpecifier) (kind : Kind) (number : is_number kind ≡ tr
   pub some_text : (x : Datum) → IsOfKind kind x → SomeText f kind x
   some_text x is = elim (cases_Bool (is_signed_decimal f.conversion_type kind)) [
     | inl decimal ↦
-      let it = (decimal_texts f kind number digits given decimal).each x is in
-      record { lead = sign_of f it.0; n = unsigned_abs it.0; small = abs_small (width_of_kind kind) it.0 it.1; text = it.2; most = decimal_most f kind it.0 decimal it.1 }
+        let it = (decimal_texts f kind number digits given decimal).each x is in
+        record { lead = sign_of f it.0; n = unsigned_abs it.0; small = abs_small (width_of_kind kind) it.0 it.1; text = it.2; most = decimal_most f kind it.0 decimal it.1 }
     | inr other ↦
-      let it = (bit_texts f kind number digits given other).each x is in
-      record { lead = prefix f; n = it.0; small = bits_small kind it.0 it.1; text = it.2; most = omega (arith, bits_most f.conversion_type kind it.0 digits other it.1) }
+        let it = (bit_texts f kind number digits given other).each x is in
+        record { lead = prefix f; n = it.0; small = bits_small kind it.0 it.1; text = it.2; most = omega (arith, bits_most f.conversion_type kind it.0 digits other it.1) }
   ]
 
   pub long_text : LongText f kind
   long_text = elim (cases_Bool (is_signed_decimal f.conversion_type kind)) [
     | inl decimal ↦
-      let long = decimal_least f kind decimal in
-      let it = (decimal_texts f kind number digits given decimal).some long.z long.fits in
-      record { value = it.0; is = it.1; lead = sign_of f long.z; n = unsigned_abs long.z; small = abs_small (width_of_kind kind) long.z long.fits; text = it.2; full = long.full }
+        let long = decimal_least f kind decimal in
+        let it = (decimal_texts f kind number digits given decimal).some long.z long.fits in
+        record { value = it.0; is = it.1; lead = sign_of f long.z; n = unsigned_abs long.z; small = abs_small (width_of_kind kind) long.z long.fits; text = it.2; full = long.full }
     | inr other ↦
-      let long = bits_long f.conversion_type kind digits other in
-      let it = (bit_texts f kind number digits given other).some long.n long.small in
-      record { value = it.0; is = it.1; lead = prefix f; n = long.n; small = bits_small kind long.n long.small; text = it.2; full = ap (λ k. length (prefix f) + k) long.full }
+        let long = bits_long f.conversion_type kind digits other in
+        let it = (bit_texts f kind number digits given other).some long.n long.small in
+        record { value = it.0; is = it.1; lead = prefix f; n = long.n; small = bits_small kind long.n long.small; text = it.2; full = ap (λ k. length (prefix f) + k) long.full }
   ]
 
 -- ---- words
@@ -146,12 +144,11 @@ wide_ends = (λ e. omega arith, λ e. omega arith)
 
 long_touches : (c : Column) (kind : Kind) → is_number kind ≡ true → IsPaired c kind → width_of c.field ≤ greatest_length c.field kind → Touches c kind
 long_touches c kind number paired room =
-    let long = long_text c.field kind number (converts_digits c.field.conversion_type kind number paired.0) paired.1 in
-    (
+    let long = long_text c.field kind number (converts_digits c.field.conversion_type kind number paired.0) paired.1 in (
       long.value,
       number_fits c kind long.value number long.is,
       ap trailing_spaces long.text ∙ number_trail c.field.left_adj c.field.zero_pad (room_of c.field long.lead long.n) long.lead (digits_of c.field.conversion_type long.n)
-        (digits_end c.field.conversion_type long.n long.small) (λ left. omega (arith, long.full, room))
+          (digits_end c.field.conversion_type long.n long.small) (λ left. omega (arith, long.full, room)),
     )
 
 -- the long value of each kind leaves no space behind it where the width has no room for more
@@ -159,51 +156,47 @@ pub fill_touches : (c : Column) (kind : Kind) → IsPaired c kind → IsWhole c 
 fill_touches c Word paired whole narrow h =
     let n = times (width_of c.field) in
     let t = times_is (width_of c.field) narrow in
-    let letter = letter_for c in
-    (
+    let letter = letter_for c in (
       word (replicate n letter),
       word_fits c n letter t.1 t.2 (letter_low c) (letter_suits c),
       ap trailing_spaces (word_is c.field (replicate n letter) (converts_word c.field.conversion_type paired.0) (precision_is c.field.precision (λ p. whole (refl, p))) paired.1 (omega (arith, length-replicate {A = ℕ} n letter, t.2)))
-      ∙ word_trail c.field.left_adj (width_of c.field - length (replicate n letter)) (replicate n letter)
-        (same_ends n letter t.1 (other_by (λ x. x ≢ 32) 97 98 (stop c) (λ e. omega arith) (λ e. omega arith)))
-        (λ left. omega (arith, length-replicate {A = ℕ} n letter, t.0))
+          ∙ word_trail c.field.left_adj (width_of c.field - length (replicate n letter)) (replicate n letter)
+          (same_ends n letter t.1 (other_by (λ x. x ≢ 32) 97 98 (stop c) (λ e. omega arith) (λ e. omega arith)))
+          (λ left. omega (arith, length-replicate {A = ℕ} n letter, t.0)),
     )
 fill_touches c Char paired whole narrow h =
     let letter = other_than 65536 65537 (stop c) in
-    let four : length (encode_utf8 letter) ≡ 4 = other_by (λ x. length (encode_utf8 x) ≡ 4) 65536 65537 (stop c) (length-encode 65536) (length-encode 65537) in
-    (
+    let four : length (encode_utf8 letter) ≡ 4 = other_by (λ x. length (encode_utf8 x) ≡ 4) 65536 65537 (stop c) (length-encode 65536) (length-encode 65537) in (
       character letter,
       character_fits c letter (other_by IsScalar 65536 65537 (stop c) refl refl) (other_suits 65536 65537 (stop c) refl refl (λ e. omega arith)),
       ap trailing_spaces (character_is c.field letter (converts_character c.field.conversion_type paired.0) paired.1)
-      ∙ word_trail c.field.left_adj (width_of c.field - length (encode_utf8 letter)) (encode_utf8 letter)
-        (other_by (λ x. EndsSolid (encode_utf8 x)) 65536 65537 (stop c) wide_ends.0 wide_ends.1)
-        (λ left. omega (arith, four, leb-true (width_of c.field) 4 h))
+          ∙ word_trail c.field.left_adj (width_of c.field - length (encode_utf8 letter)) (encode_utf8 letter)
+          (other_by (λ x. EndsSolid (encode_utf8 x)) 65536 65537 (stop c) wide_ends.0 wide_ends.1)
+          (λ left. omega (arith, four, leb-true (width_of c.field) 4 h)),
     )
 fill_touches c kind paired whole narrow h = long_touches c kind refl paired (leb-true (width_of c.field) (greatest_length c.field kind) h)
 
 -- without `-` no space stands behind a value
 front_number : (c : Column) (kind : Kind) → is_number kind ≡ true → IsPaired c kind → c.field.left_adj ≡ false → Touches c kind
 front_number c kind number paired front =
-    let long = long_text c.field kind number (converts_digits c.field.conversion_type kind number paired.0) paired.1 in
-    (
+    let long = long_text c.field kind number (converts_digits c.field.conversion_type kind number paired.0) paired.1 in (
       long.value,
       number_fits c kind long.value number long.is,
       ap trailing_spaces long.text ∙ number_trail c.field.left_adj c.field.zero_pad (room_of c.field long.lead long.n) long.lead (digits_of c.field.conversion_type long.n)
-        (digits_end c.field.conversion_type long.n long.small) (λ left. absurd (let bad : true ≡ false = sym left ∙ front in cc))
+          (digits_end c.field.conversion_type long.n long.small) (λ left. absurd (let bad : true ≡ false = sym left ∙ front in cc)),
     )
 
 pub front_touches : (c : Column) (kind : Kind) → IsPaired c kind → IsWhole c kind → width_of c.field ≤ 2147483647 → c.field.left_adj ≡ false → Touches c kind
 front_touches c Word paired whole narrow front = fill_touches c Word paired whole narrow refl
 front_touches c Char paired whole narrow front =
     let letter = letter_for c in
-    let same : encode_utf8 letter ≡ letter ∷ [] = encode_ascii letter (letter_low c) in
-    (
+    let same : encode_utf8 letter ≡ letter ∷ [] = encode_ascii letter (letter_low c) in (
       character letter,
       character_fits c letter (low_scalar letter (omega (arith, letter_low c))) (letter_suits c),
       ap trailing_spaces (character_is c.field letter (converts_character c.field.conversion_type paired.0) paired.1)
-      ∙ word_trail c.field.left_adj (width_of c.field - length (encode_utf8 letter)) (encode_utf8 letter)
-        (subst EndsSolid (sym same) (other_by (λ x. x ≢ 32) 97 98 (stop c) (λ e. omega arith) (λ e. omega arith)))
-        (λ left. absurd (let bad : true ≡ false = sym left ∙ front in cc))
+          ∙ word_trail c.field.left_adj (width_of c.field - length (encode_utf8 letter)) (encode_utf8 letter)
+          (subst EndsSolid (sym same) (other_by (λ x. x ≢ 32) 97 98 (stop c) (λ e. omega arith) (λ e. omega arith)))
+          (λ left. absurd (let bad : true ≡ false = sym left ∙ front in cc)),
     )
 front_touches c kind paired whole narrow front = front_number c kind refl paired front
 

@@ -1,18 +1,17 @@
 -- The table of greatest lengths is right.
-use Rattle.std.proofs.Common.{◌≡◌, ◌<◌, ◌≤◌, ◌+◌, ◌-◌, ◌^◌, ℕ, ℤ, pos, negsuc, Bool, true, false, cond, List, [], ◌∷◌, ◌++◌, length, replicate, FitsSigned, sym, ap, subst, refl, inl, inr, ◌∙◌, arith, length-append, unsigned_abs}
+use Rattle.std.proofs.Common.{◌≡◌, ◌≤◌, ◌+◌, ℕ, pos, Bool, true, false, List, ◌++◌, length, replicate, ap, inl, inr, ◌∙◌, arith, length-append, unsigned_abs}
 use Rattle.std.proofs.lemmas.Bool.{cases_Bool}
 use Rattle.std.proofs.lemmas.List.{length-replicate}
-use mir.Val.{hbits}
 use Rattle.sprintf.specs.declared.parser.ConversionSpecifier.{ConversionSpecifier}
 use Rattle.sprintf.specs.declared.parser.NumericParam.TheVariants.{Literal}
 use Rattle.sprintf.specs.Field.{digits_of, sign_of}
 use Rattle.values.specs.declared.kind.Kind.{Kind}
 use Rattle.values.specs.Datum.{Datum, IsOfKind}
-use Rattle.row_format.specs.Columns.{Column, field_text}
-use Rattle.row_format.specs.Plannable.{IsPaired, is_number, greatest_length}
+use Rattle.row_format.specs.Columns.{field_text}
+use Rattle.row_format.specs.Plannable.{is_number, greatest_length}
 use Rattle.row_format.specs.Laws.{TableIsRight}
 use Rattle.separation.specs.Inner.Table.{is_signed_decimal}
-use Rattle.separation.proofs.Sorts.{IsDigits, converts_digits, width_of_kind, number_form, number_field, room_of, prefix, bit_texts, decimal_texts, decimal_is}
+use Rattle.separation.proofs.Sorts.{IsDigits, converts_digits, number_form, number_field, room_of, prefix, bit_texts, decimal_texts}
 use Rattle.separation.proofs.Lengths.{bits_most, bits_long, decimal_most, decimal_least}
 
 -- the length of a number's text
@@ -38,24 +37,22 @@ bits_right : (f : ConversionSpecifier) (kind : Kind) → is_number kind ≡ true
 bits_right f kind number digits other =
     let texts = bit_texts (bare f) kind number digits (λ e. cc) other in
     let long = bits_long f.conversion_type kind digits other in
-    let one = texts.some long.n long.small in
-    (
+    let one = texts.some long.n long.small in (
       (λ x is. let it = texts.each x is in
-        let same = ap length it.2 in
-        omega (arith, same, bare_length f (prefix f) it.0, bits_most f.conversion_type kind it.0 digits other it.1)),
-      (one.0, one.1, ap length one.2 ∙ bare_length f (prefix f) long.n ∙ ap (λ n. length (prefix f) + n) long.full)
+          let same = ap length it.2 in
+          omega (arith, same, bare_length f (prefix f) it.0, bits_most f.conversion_type kind it.0 digits other it.1)),
+      (one.0, one.1, ap length one.2 ∙ bare_length f (prefix f) long.n ∙ ap (λ n. length (prefix f) + n) long.full),
     )
 
 decimal_right : (f : ConversionSpecifier) (kind : Kind) → is_number kind ≡ true → IsDigits f.conversion_type → is_signed_decimal f.conversion_type kind ≡ true → Right f kind
 decimal_right f kind number digits decimal =
     let texts = decimal_texts (bare f) kind number digits (λ e. cc) decimal in
     let least = decimal_least f kind decimal in
-    let one = texts.some least.z least.fits in
-    (
+    let one = texts.some least.z least.fits in (
       (λ x is. let it = texts.each x is in
-        let same = ap length it.2 in
-        omega (arith, same, bare_length f (sign_of f it.0) (unsigned_abs it.0), decimal_most f kind it.0 decimal it.1)),
-      (one.0, one.1, ap length one.2 ∙ bare_length f (sign_of f least.z) (unsigned_abs least.z) ∙ least.full)
+          let same = ap length it.2 in
+          omega (arith, same, bare_length f (sign_of f it.0) (unsigned_abs it.0), decimal_most f kind it.0 decimal it.1)),
+      (one.0, one.1, ap length one.2 ∙ bare_length f (sign_of f least.z) (unsigned_abs least.z) ∙ least.full),
     )
 
 pub table_is_right : TableIsRight

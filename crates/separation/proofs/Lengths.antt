@@ -1,8 +1,7 @@
 -- The greatest lengths of numbers' texts.
-use Rattle.std.proofs.Common.{◌≡◌, ◌≢◌, ◌<◌, ◌≤◌, ◌+◌, ◌-◌, ◌^◌, ℕ, zero, suc, ℤ, pos, negsuc, Bool, true, false, cond, ◌||◌, List, [], ◌∷◌, ◌++◌, length, replicate, FitsSigned, sym, ap, refl, ◌∙◌, arith, length-append, unsigned_abs}
+use Rattle.std.proofs.Common.{◌≡◌, ◌<◌, ◌≤◌, ◌+◌, ◌-◌, ◌^◌, ℕ, suc, ℤ, pos, negsuc, Bool, true, false, cond, List, [], ◌∷◌, length, FitsSigned, sym, ap, refl, ◌∙◌, arith, unsigned_abs}
 use Rattle.std.specs.Int.{Width, w8, w16, w32, w64}
 use Rattle.std.specs.Char.{digit_value}
-use Rattle.std.proofs.lemmas.List.{length-replicate}
 use mir.Val.{bits, hbits}
 use Rattle.numerals.specs.Numeral.{numeral}
 use Rattle.numerals.proofs.Steps.{length-numeral-fits}
@@ -13,7 +12,7 @@ use Rattle.sprintf.specs.Field.{prefix_of, digits_of, sign_of}
 use Rattle.values.specs.declared.kind.Kind.{Kind}
 use Rattle.row_format.specs.Plannable.{is_signed, by_bits, greatest_digits, greatest_length}
 use Rattle.separation.specs.Inner.Table.{is_signed_decimal}
-use Rattle.separation.proofs.Sorts.{IsDigits, width_of_kind, four, prefix, number_form, decimal_is}
+use Rattle.separation.proofs.Sorts.{IsDigits, width_of_kind, four, decimal_is}
 
 -- the text begins with a decimal digit
 abbrev pub HeadDigit : List ℕ → Type 0
@@ -157,5 +156,5 @@ decimal_least f kind h =
     let long = signed_long kind in
     let n = 2 ^ hbits (width_of_kind kind) - 1 in
     let same : length (digits_of f.conversion_type (suc n)) + 1 ≡ greatest_length f kind =
-        ap (λ (t : List ℕ). length t + 1) (digits_decimal f.conversion_type (suc n) (decimal_is f.conversion_type kind h).0) ∙ long.3 ∙ sym (decimal_greatest f kind h) in
+    ap (λ (t : List ℕ). length t + 1) (digits_decimal f.conversion_type (suc n) (decimal_is f.conversion_type kind h).0) ∙ long.3 ∙ sym (decimal_greatest f kind h) in
     record { z = negsuc n; fits = record { sfits = omega (arith, long.0) }; negative = refl; full = omega (arith, same) }

@@ -1,7 +1,10 @@
+pub mod Behind
 pub mod Clear
 pub mod Ends
 pub mod Greatest
 pub mod Lengths
+pub mod Places
 pub mod Sorts
+pub mod Taken
 pub mod Texts
 pub mod Words

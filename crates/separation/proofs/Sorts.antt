@@ -1,12 +1,10 @@
 -- Number kinds by their width and sign, and the text of their fields.
-use Rattle.std.proofs.Common.{◌≡◌, ◌≢◌, ◌<◌, ◌≤◌, ◌+◌, ◌-◌, ◌^◌, ℕ, zero, suc, ℤ, pos, negsuc, Bool, true, false, cond, not, ◌&&◌, List, [], ◌∷◌, ◌++◌, length, replicate, Option, Some, None, Result, Ok, Err, FitsSigned, unwrap_or, sym, ap, refl, ◌∙◌, arith, append_assoc, encode_utf8, unsigned_abs}
+use Rattle.std.proofs.Common.{◌≡◌, ◌≢◌, ◌<◌, ◌+◌, ◌-◌, ◌^◌, ℕ, zero, suc, ℤ, pos, negsuc, Bool, true, false, cond, List, [], ◌∷◌, ◌++◌, length, replicate, Option, Some, Result, Ok, FitsSigned, unwrap_or, sym, ap, refl, ◌∙◌, arith, append_assoc, unsigned_abs}
 use Rattle.std.specs.Int.{Width, w8, w16, w32, w64, cast_unsigned, cast_signed}
-use Rattle.std.specs.Str.{byte, encode_utf8_all}
-use Rattle.std.proofs.lemmas.Bool.{cases_Bool}
 use Rattle.std.proofs.lemmas.Int.{of_z-to_z}
 use Rattle.std.proofs.lemmas.Str.{encode_ascii}
 use Rattle.std.proofs.Math.Facts.{Fits-of_z, sfits_to_z}
-use mir.Val.{bits, hbits}
+use mir.Val.{bits}
 use Rattle.padding.specs.Field.{fills}
 use Rattle.sprintf.specs.declared.PrintfError.{PrintfError}
 use Rattle.sprintf.specs.declared.parser.ConversionSpecifier.{ConversionSpecifier}
@@ -19,7 +17,7 @@ use Rattle.sprintf.specs.Meaning.{by_conversion}
 use Rattle.values.specs.declared.kind.Kind.{Kind}
 use Rattle.values.specs.declared.kind.Kind.TheVariants.{U8, U16, U32, U64, Usize, I8, I16, I32, I64, Isize, Word, Char}
 use Rattle.values.specs.Datum.{Datum, natural, integer, word, character, IsOfKind, printf_meaning}
-use Rattle.row_format.specs.Columns.{Column, text_or_none, field_text, width_of}
+use Rattle.row_format.specs.Columns.{text_or_none, field_text, width_of}
 use Rattle.row_format.specs.Plannable.{is_number, is_signed, by_bits, Converts}
 use Rattle.separation.specs.Inner.Table.{is_signed_decimal}
 

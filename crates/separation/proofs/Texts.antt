@@ -1,12 +1,12 @@
 -- First characters and last bytes of texts.
-use Rattle.std.proofs.Common.{eqb, cond, ◌≡◌, ◌≢◌, ◌⊎◌, ◌&&◌, ◌<◌, ◌≤◌, ◌+◌, ◌-◌, ℕ, zero, suc, Bool, true, false, List, [], ◌∷◌, ◌++◌, length, replicate, Option, Some, None, sym, ap, subst, refl, inl, inr, ◌∙◌, arith, append-nil, encode_utf8, nat_lt, not}
+use Rattle.std.proofs.Common.{eqb, cond, ◌≡◌, ◌≢◌, ◌&&◌, ◌<◌, ◌≤◌, ℕ, zero, suc, Bool, true, false, List, [], ◌∷◌, ◌++◌, length, replicate, Some, None, sym, ap, subst, refl, ◌∙◌, arith, append-nil, encode_utf8, nat_lt, not}
 use Rattle.std.specs.Char.{digit_value, IsScalar}
 use Rattle.std.specs.List.{list_all}
 use Rattle.std.specs.Str.{chars, IsUtf8}
 use Rattle.std.specs.Str.Parse.{AllDigits}
 use Rattle.std.proofs.lemmas.Bool.{ne_eqb, eqb-true, and_parts}
 use Rattle.std.proofs.lemmas.Bool.Decides.{nat_tests}
-use Rattle.std.proofs.lemmas.Str.{chars-append, chars_past_char, chars-nil, IsUtf8-encode, encode_ascii}
+use Rattle.std.proofs.lemmas.Str.{chars-append, chars_past_char, chars-nil, IsUtf8-encode}
 use Rattle.scan_fmt.specs.Directives.{first}
 use Rattle.row_format.specs.Plannable.{trailing_spaces}
 

@@ -1,16 +1,15 @@
 -- The texts of words and characters, and values that fit.
-use Rattle.std.proofs.Common.{eqb, cond, ◌≡◌, ◌≢◌, ◌<◌, ◌≤◌, ◌+◌, ◌-◌, ◌^◌, ℕ, zero, suc, pos, negsuc, Bool, true, false, List, [], ◌∷◌, ◌++◌, length, take, min, replicate, Option, Some, None, Result, Ok, Err, FitsSigned, unwrap_or, sym, ap, subst, refl, inl, inr, ◌∙◌, arith, encode_utf8}
-use Rattle.std.specs.Char.{digit_value, IsScalar}
+use Rattle.std.proofs.Common.{eqb, cond, ◌≡◌, ◌≢◌, ◌<◌, ◌≤◌, ◌-◌, ℕ, zero, suc, pos, negsuc, Bool, true, false, List, [], ◌∷◌, ◌++◌, length, take, min, replicate, Option, Some, None, Ok, Err, unwrap_or, sym, ap, subst, refl, inl, inr, ◌∙◌, arith, encode_utf8}
+use Rattle.std.specs.Char.{IsScalar}
 use Rattle.std.specs.List.{AllByRecursion}
-use Rattle.std.specs.Str.{chars, IsUtf8, all_scalars, encode_utf8_all, IsCharBoundary}
+use Rattle.std.specs.Str.{chars, all_scalars}
 use Rattle.std.specs.Fmt.Cut.{floor_char_boundary}
 use Rattle.std.proofs.lemmas.Bool.{cases_eq, eq-eqb, ne_eqb}
 use Rattle.std.proofs.lemmas.List.{length-replicate, take_all}
-use Rattle.std.proofs.lemmas.Str.{chars-encodes, IsCharBoundary-end, encode_ascii, length-encode}
+use Rattle.std.proofs.lemmas.Str.{chars-encodes, IsCharBoundary-end}
 use lib.Utf8.{low_scalar}
 use Rattle.padding.specs.Field.{fills}
 use Rattle.sprintf.proofs.Cut.{cut_is}
-use Rattle.sprintf.specs.declared.PrintfError.{PrintfError}
 use Rattle.sprintf.specs.declared.PrintfError.TheVariants.{WrongType}
 use Rattle.sprintf.specs.declared.parser.ConversionSpecifier.{ConversionSpecifier}
 use Rattle.sprintf.specs.declared.parser.ConversionType.{ConversionType}
@@ -25,7 +24,7 @@ use Rattle.values.specs.declared.kind.Kind.{Kind}
 use Rattle.values.specs.declared.kind.Kind.TheVariants.{U8, U16, U32, U64, Usize, I8, I16, I32, I64, Isize, Word, Char}
 use Rattle.values.specs.Datum.{Datum, natural, integer, word, character, IsOfKind}
 use Rattle.row_format.specs.Columns.{Column, text_or_none, field_text, width_of}
-use Rattle.row_format.specs.Fit.{stop, MayStandBefore, IsFit, AreFit}
+use Rattle.row_format.specs.Fit.{stop, IsFit, AreFit}
 use Rattle.row_format.specs.Plannable.{is_number, Converts, IsUnpaired, Never}
 use Rattle.separation.proofs.Sorts.{param_is, fills_is}
 
@@ -120,12 +119,12 @@ chars_same n c low = ap chars (sym (fills_is n c low)) ∙ chars-encodes (replic
 -- the word of one character so many times
 pub word_fits : (c : Column) (n letter : ℕ) → 0 < n → n ≤ 2147483647 → letter < 128 → Suits (Until (stop c)) letter → IsFit c Word (word (replicate n letter))
 word_fits c n letter some short low suits = (
-    (replicate n letter, (scalars_same n letter low, fills_is n letter low)),
-    (
-      omega (arith, length-replicate {A = ℕ} n letter),
-      omega (arith, length-replicate {A = ℕ} n letter),
-      subst (AllByRecursion (Suits (Until (stop c)))) (sym (chars_same n letter low)) (all_same (Suits (Until (stop c))) n letter suits)
-    )
+  (replicate n letter, (scalars_same n letter low, fills_is n letter low)),
+  (
+    omega (arith, length-replicate {A = ℕ} n letter),
+    omega (arith, length-replicate {A = ℕ} n letter),
+    subst (AllByRecursion (Suits (Until (stop c)))) (sym (chars_same n letter low)) (all_same (Suits (Until (stop c))) n letter suits),
+  ),
 )
 
 pub character_fits : (c : Column) (letter : ℕ) → IsScalar letter → Suits (Until (stop c)) letter → IsFit c Char (character letter)

@@ -1,5 +1,5 @@
 -- Why a format can't be read back, and at which field.
-use Rattle.std.specs.Prelude.{ℕ, List}
+use Rattle.std.specs.Prelude.{List}
 use Rattle.values.specs.declared.kind.Kind.{Kind}
 use Rattle.row_format.specs.Columns.{Column}
 use Rattle.row_format.specs.Plannable.{IsUnpaired, IsLossy, RunsOn, Never, FirstAt}

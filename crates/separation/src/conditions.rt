@@ -5,6 +5,7 @@ ghost use Rattle.separation.specs.Refusal.{IsRefused};
 ghost use Rattle.separation.specs.Inner.Conditions.{Breaks, MayJudge};
 
 use crate::Refused;
+use crate::front::split;
 use crate::pairs::{is_lossy, is_unpaired};
 use crate::touching::runs_on;
 use row_format::{RowField, RowFormat};
@@ -35,19 +36,19 @@ impl Condition {
     }
 
     /// The first place, counted from 1, at which the condition is broken.
-    fn first_broken(self, format: &[RowField], kinds: &[Kind]) -> Option<usize>
-        requires { MayJudge self format.now kinds.now }
-        ensures { MatchOption result (Never (Breaks self) format.now kinds.now) (FirstAt (Breaks self) format.now kinds.now) }
+    fn first_broken(self, columns: &[RowField], kinds: &[Kind]) -> Option<usize>
+        requires { MayJudge self columns.now kinds.now }
+        ensures { MatchOption result (Never (Breaks self) columns.now kinds.now) (FirstAt (Breaks self) columns.now kinds.now) }
     {
-        let mut columns = format;
-        let mut kinds = kinds;
+        let mut columns_left = columns;
+        let mut kinds_left = kinds;
         let mut passed = 0;
-        'columns: while !self.is_broken(columns, kinds) {
-            let ([_, later_columns @ ..], [_, later_kinds @ ..]) = (columns, kinds) else {
+        'columns: while !self.is_broken(columns_left, kinds_left) {
+            let Some(front) = split(columns_left, kinds_left) else {
                 return None;
             };
-            columns = later_columns;
-            kinds = later_kinds;
+            columns_left = front.columns;
+            kinds_left = front.kinds;
             passed += 1;
         }
         Some(passed + 1)

@@ -5,6 +5,7 @@ use row_format::RowField;
 use values::Kind;
 
 /// The column in front and its kind, and what follows them.
+#[derive(Clone, Copy)]
 pub struct Front<'a> {
     pub column: &'a RowField,
     pub kind: Kind,

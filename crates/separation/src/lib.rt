@@ -2,8 +2,8 @@
 #![tactic(auto)]
 
 mod conditions;
-pub mod laws;
 mod front;
+pub mod laws;
 mod pairs;
 mod table;
 mod touching;

@@ -15,7 +15,10 @@ pub fn is_number(kind: Kind) -> bool
 pub fn is_signed(kind: Kind) -> bool
     ensures { result ≡ is_signed kind }
 {
-    matches!(kind, Kind::I8 | Kind::I16 | Kind::I32 | Kind::I64 | Kind::Isize)
+    matches!(
+        kind,
+        Kind::I8 | Kind::I16 | Kind::I32 | Kind::I64 | Kind::Isize
+    )
 }
 
 fn converts(conversion: ConversionType, kind: Kind) -> bool

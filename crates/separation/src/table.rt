@@ -3,7 +3,7 @@ ghost use Rattle.std.specs.Prelude.{◌≡◌, ◌≤◌, ℕ, length, [], if◌
 ghost use Rattle.sprintf.specs.Field.{prefix_of};
 ghost use Rattle.row_format.specs.Columns.{width_of};
 ghost use Rattle.row_format.specs.Plannable.{by_bits, greatest_digits, greatest_length, is_exact};
-ghost use Rattle.separation.specs.Inner.Table.{may_fill, is_signed_decimal, bare_opening, number_opening, character_opening, field_opening, is_taken, is_opening_taken};
+ghost use Rattle.separation.specs.Inner.Table.{may_fill, is_signed_decimal, bare_opening, number_opening, field_opening, is_taken, is_opening_taken};
 
 use crate::pairs::{is_number, is_signed};
 use sprintf::parser::{ConversionSpecifier, ConversionType, NumericParam};
@@ -138,29 +138,17 @@ fn number_opening(field: &ConversionSpecifier, kind: Kind) -> Opening
     }
 }
 
-/// What can come first in a character's text.
-fn character_opening(field: &ConversionSpecifier) -> Opening
-    ensures opening { result ≡ character_opening field.now }
-{
-    let width = width_of(field);
-    if field.left_adj || width <= 1 {
-        Opening::Any
-    } else if width <= 4 {
-        Opening::Wide
-    } else {
-        Opening::Space
-    }
-}
-
 /// What can come first in the text of a field.
 pub fn field_opening(field: &ConversionSpecifier, kind: Kind) -> Opening
     ensures opening { result ≡ field_opening field.now kind }
     ensures narrow { width_of field.now ≤ 2147483647 }
 {
-    let _width = width_of(field);
+    let width = width_of(field);
     match kind {
         Kind::Word => Opening::Any,
-        Kind::Char => character_opening(field),
+        Kind::Char if field.left_adj || width <= 1 => Opening::Any,
+        Kind::Char if width <= 4 => Opening::Wide,
+        Kind::Char => Opening::Space,
         _ => number_opening(field, kind),
     }
 }

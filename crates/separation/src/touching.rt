@@ -3,6 +3,7 @@ ghost use Rattle.std.specs.Prelude.{◌≡◌, ◌++◌, ◌↔◌, ℕ, List, [
 ghost use Rattle.row_format.specs.Plannable.{RunsOn, Never, IsPaired, IsUnpaired, IsLossy};
 ghost use Rattle.separation.specs.Inner.Touching.{TakesSome, IsWhole, Touches, IsFollowed};
 
+use crate::front::split;
 use crate::table::{field_opening, is_exact, is_opening_taken, is_taken, may_fill};
 use row_format::RowField;
 use values::Kind;
@@ -35,12 +36,10 @@ fn is_followed(column: &RowField, later: &[RowField], kinds: &[Kind]) -> bool
     if let Some(character) = first_character(column.after()) {
         return is_taken(conversion, character);
     }
-    match (later, kinds) {
-        ([next, ..], [kind, ..]) => {
-            is_opening_taken(conversion, field_opening(next.field(), *kind))
-        }
-        _ => false,
-    }
+    let Some(next) = split(later, kinds) else {
+        return false;
+    };
+    is_opening_taken(conversion, field_opening(next.column.field(), next.kind))
 }
 
 /// Whether the field in front runs on.
@@ -49,10 +48,11 @@ pub fn runs_on(columns: &[RowField], kinds: &[Kind]) -> bool
     requires whole { Never IsLossy columns.now kinds.now }
     ensures { IsTrue result ↔ RunsOn columns.now kinds.now }
 {
-    let ([column, later @ ..], [kind, later_kinds @ ..]) = (columns, kinds) else {
+    let Some(front) = split(columns, kinds) else {
         return false;
     };
-    !is_exact(column.field(), *kind)
-        && may_touch(column, *kind)
-        && is_followed(column, later, later_kinds)
+    if is_exact(front.column.field(), front.kind) {
+        return false;
+    }
+    may_touch(front.column, front.kind) && is_followed(front.column, front.columns, front.kinds)
 }

@@ -1,5 +1,5 @@
 -- Fields in braces, and text whose braces are doubled.
-use Rattle.std.proofs.Common.{◌≡◌, ◌≢◌, ℕ, suc, ◌<◌, Bool, true, false, List, [], ◌∷◌, ◌++◌, length, get_or, Option, Some, None, refl, ap, sym, ◌∙◌, append_assoc, arith}
+use Rattle.std.proofs.Common.{◌≡◌, ◌≢◌, ◌⊎◌, inl, inr, ℕ, suc, ◌<◌, Bool, true, false, List, [], ◌∷◌, ◌++◌, length, get_or, Option, Some, None, refl, ap, sym, ◌∙◌, append_assoc, arith}
 use Rattle.std.specs.Prelude.{codes, encode_utf8, encode_utf8_all}
 use Rattle.std.proofs.lemmas.Bool.Decides.{nat_tests}
 use Rattle.std.proofs.lemmas.List.{append-nil}
@@ -31,30 +31,40 @@ field_parts old prefix options i = rw (braces i options) (simp append_assoc)
 cons_front : (a b : List ℕ) → HasFirst a → HasFirst (a ++ b)
 cons_front a b h = rw h.is (record { first = h.first; others = h.others ++ b; is = refl })
 
-some_letters : (target : Target) (letters : Letters) → letters ≢ NoLetters → HasFirst (letters_text target letters)
-some_letters target NoLetters h = absurd (h refl)
-some_letters Strfmt LowerHex h = record { first = 120; others = []; is = refl }
-some_letters Strfmt UpperHex h = record { first = 88; others = []; is = refl }
-some_letters Strfmt Octal h = record { first = 111; others = []; is = refl }
-some_letters Formatx LowerHex h = record { first = 120; others = 63 ∷ []; is = refl }
-some_letters Formatx UpperHex h = record { first = 88; others = 63 ∷ []; is = refl }
-some_letters Formatx Octal h = record { first = 111; others = []; is = refl }
+abbrev parts : Side → Bool → Bool → Option ℕ → Option ℕ → Letters → Options
+parts side plus zeros width precision letters = record { side = side; plus = plus; zero = zeros; width = width; precision = precision; letters = letters }
+
+some_letters : (target : Target) (letters : Letters) → (parts Unset false false None None letters ≡ none) ⊎ HasFirst (letters_text target letters)
+some_letters target NoLetters = inl refl
+some_letters Strfmt LowerHex = inr (record { first = 120; others = []; is = refl })
+some_letters Strfmt UpperHex = inr (record { first = 88; others = []; is = refl })
+some_letters Strfmt Octal = inr (record { first = 111; others = []; is = refl })
+some_letters Formatx LowerHex = inr (record { first = 120; others = 63 ∷ []; is = refl })
+some_letters Formatx UpperHex = inr (record { first = 88; others = 63 ∷ []; is = refl })
+some_letters Formatx Octal = inr (record { first = 111; others = []; is = refl })
 
 some_parts : (target : Target) (side : Side) (plus zeros : Bool) (width precision : Option ℕ) (letters : Letters) →
-    record { side = side; plus = plus; zero = zeros; width = width; precision = precision; letters = letters } ≢ none →
-    HasFirst (written target (record { side = side; plus = plus; zero = zeros; width = width; precision = precision; letters = letters }))
-some_parts target Left plus zeros width precision letters h = record { first = 60; others = _; is = refl }
-some_parts target Right plus zeros width precision letters h = record { first = 62; others = _; is = refl }
-some_parts target RightOfZeros plus zeros width precision letters h = record { first = 48; others = _; is = refl }
-some_parts target Unset true zeros width precision letters h = record { first = 43; others = _; is = refl }
-some_parts target Unset false true width precision letters h = record { first = 48; others = _; is = refl }
-some_parts target Unset false false (Some w) precision letters h = cons_front (numeral 10 false w) _ (numeral_first 10 w false)
-some_parts target Unset false false None (Some q) letters h = record { first = 46; others = _; is = refl }
-some_parts target Unset false false None None letters h = some_letters target letters (λ e. h (ap (λ (l : Letters). record none { letters = l }) e))
+    (parts side plus zeros width precision letters ≡ none) ⊎ HasFirst (written target (parts side plus zeros width precision letters))
+some_parts target Left plus zeros width precision letters = inr (record { first = 60; others = _; is = refl })
+some_parts target Right plus zeros width precision letters = inr (record { first = 62; others = _; is = refl })
+some_parts target RightOfZeros plus zeros width precision letters = inr (record { first = 48; others = _; is = refl })
+some_parts target Unset true zeros width precision letters = inr (record { first = 43; others = _; is = refl })
+some_parts target Unset false true width precision letters = inr (record { first = 48; others = _; is = refl })
+some_parts target Unset false false (Some w) precision letters = inr (cons_front (numeral 10 false w) _ (numeral_first 10 w false))
+some_parts target Unset false false None (Some q) letters = inr (record { first = 46; others = _; is = refl })
+some_parts target Unset false false None None letters = some_letters target letters
+
+-- options are none, or some text
+pub none_or_some : (target : Target) (o : Options) → (o ≡ none) ⊎ HasFirst (written target o)
+none_or_some target o = some_parts target o.side o.plus o.zero o.width o.precision o.letters
 
 -- options that aren't the empty ones are some text
 pub some_written : (target : Target) (o : Options) → o ≢ none → HasFirst (written target o)
-some_written target o h = some_parts target o.side o.plus o.zero o.width o.precision o.letters h
+some_written target o h = pick (none_or_some target o)
+  where
+    pick : (o ≡ none) ⊎ HasFirst (written target o) → HasFirst (written target o)
+    pick (inl e) = absurd (h e)
+    pick (inr f) = f
 
 -- some text behind its colon
 pub with_colon : (old text : List ℕ) → HasFirst text → old ++ codes ":" ++ text ≡ old ++ behind_colon text

@@ -34,7 +34,7 @@ decimal_written Strfmt ByZeros plus w = refl
 decimal_written Strfmt ToRight true w = refl
 decimal_written Strfmt ToRight false w = rw (append-nil (numeral 10 false w)) refl
 
-not_empty : (c : ℕ) (p : List ℕ) → (length (c ∷ p) == 0) ≡ false
+pub not_empty : (c : ℕ) (p : List ℕ) → (length (c ∷ p) == 0) ≡ false
 not_empty c p = grind (arith, nat_tests)
 
 -- the prefix, and then the field in braces

@@ -12,5 +12,5 @@ pub returns : goal.returns
 returns c =
     let first = c.in_ok-push_eight_digits.ensures ∙ ap (λ n. string_bytes c.args.out.now ++ eight_digits (numeral 16 false n)) c.first_number.ensures in
     on_ok_weaker c.push_third_field.result
-      (in_order (string_bytes c.args.out.now) (first_field c.args.k) (codes " ") (second_field c.args.k) (third_field c.args.k) _ _ _ _ (codes " ") (codes "\n") first c.in_ok-push_text.ensures c.in_ok-push_second_field.ensures)
-      c.push_third_field.ensures
+    (in_order (string_bytes c.args.out.now) (first_field c.args.k) (codes " ") (second_field c.args.k) (third_field c.args.k) _ _ _ _ (codes " ") (codes "\n") first c.in_ok-push_text.ensures c.in_ok-push_second_field.ensures)
+    c.push_third_field.ensures

@@ -23,7 +23,7 @@ use Rattle.scan_fmt.specs.Inner.Fields.{Content, Shaped, Finds, Ends}
 abbrev pub run_of : RunPart → Run
 run_of (UntilPart stop) = Until stop
 run_of SolidPart = Solid
-run_of (AmongPart inverted listing) = Among inverted (chars listing.now)
+run_of (AmongPart inverted set) = Among inverted (chars set.listing.now)
 
 abbrev pub notation_of : NotationPart → Notation
 notation_of DecimalPart = Decimal

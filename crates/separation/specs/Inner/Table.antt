@@ -1,5 +1,5 @@
 -- The table of the separation rule, as the code reads it.
-use Rattle.std.specs.Prelude.{ℕ, nat_lt, nat_le, not, ◌&&◌, ◌||◌, ◌==◌, Bool, true, false, if◌then◌else◌}
+use Rattle.std.specs.Prelude.{ℕ, nat_lt, nat_le, ◌&&◌, ◌||◌, ◌==◌, Bool, true, false, if◌then◌else◌}
 use Rattle.std.specs.Char.{digit_value}
 use Rattle.std.specs.Str.{byte}
 use Rattle.sprintf.specs.declared.parser.ConversionSpecifier.{ConversionSpecifier}

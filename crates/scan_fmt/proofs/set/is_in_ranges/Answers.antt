@@ -2,18 +2,14 @@ use Rattle.std.proofs.Common.{◌≡◌, ◌∷◌, ◌∙◌, sym, ap, List, �
 use Rattle.std.specs.Str.{chars}
 use Rattle.std.proofs.lemmas.Str.{IsUtf8-past_char}
 use Rattle.scan_fmt.specs.Sets.{is_between, is_in_ranges}
-use Rattle.scan_fmt.proofs.Runs.{not_between, ranges_pair, ranges_single}
-use Rattle.scan_fmt.proofs.field.is_in_ranges.Goals as goal
-use Rattle.scan_fmt.proofs.field.is_in_ranges.Goals.{else-low-c-via-then-low-c+else-c-high, else-low-c-via-else-low-c}
+use Rattle.scan_fmt.proofs.Runs.{ranges_pair, ranges_single}
+use Rattle.scan_fmt.proofs.set.is_in_ranges.Goals as goal
 
 pub listed-preserved-in-Some-range_end : goal.listed-preserved-in-Some-range_end
 listed-preserved-in-Some-range_end c =
     let low = c.in-Some.low in
     let high = c.in-Some-range_end.high in
-    let out : is_between low high c.args.c ≡ false = elim c.else-low-c.branch [
-      | else-low-c-via-then-low-c+else-c-high w ↦ not_between low high c.args.c (λ a b. omega (arith, w.if-c-high.false))
-      | else-low-c-via-else-low-c w ↦ not_between low high c.args.c (λ a b. omega (arith, w.if-low-c.false))
-    ] in
+    let out : is_between low high c.args.c ≡ false = sym c.if-is_between.ensures in
     let there : chars c.listed.ranges.now ≡ low ∷ 45 ∷ high ∷ chars c.in-Some-range_end.rest.now = c.in-Some.ensures.some ∙ ap (λ (t : List ℕ). low ∷ t) c.in-Some-range_end.ensures.some in (
       search rules,
       sym (ranges_pair low high c.args.c (chars c.in-Some-range_end.rest.now) out) ∙ ap (λ (t : List ℕ). is_in_ranges t c.args.c) (sym there) ∙ c.listed.invariant.1,

@@ -3,7 +3,7 @@ use denote.Shadow.{shadow}
 use Rattle.std.proofs.Common.{◌≡◌, length}
 use Rattle.std.specs.Str.{chars}
 use Rattle.scan_fmt.specs.Sets.{is_in_ranges}
-use Rattle.scan_fmt.proofs.field.is_in_ranges.Given as goal
+use Rattle.scan_fmt.proofs.set.is_in_ranges.Given as goal
 
 -- the character was not listed by what was passed
 abbrev pub invariant-listed : goal.invariant-listed

@@ -1,0 +1,2 @@
+-- What only private calls and proofs cite.
+pub mod Reading

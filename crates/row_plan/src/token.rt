@@ -1,0 +1,166 @@
+// One token, read to a value of its field's kind.
+ghost use Rattle.std.specs.Prelude.{◌≡◌, ◌↔◌, IsTrue, IfOk};
+ghost use Rattle.std.specs.List.{AllByRecursion};
+ghost use Rattle.std.specs.Str.{chars};
+ghost use Rattle.numerals.specs.Numeral.{base_of};
+ghost use Rattle.scan_fmt.specs.Directives.{is_blank, Until};
+ghost use Rattle.scan_fmt.specs.Scanned.{Suits};
+ghost use Rattle.values.specs.Datum.{word};
+ghost use Rattle.row_format.specs.Fit.{MayStandBefore};
+ghost use Rattle.row_format.specs.Row.{ReadsDecimal, StandsFor, IsTextOf};
+ghost use Rattle.row_plan.specs.Inner.Reading.{Finds, Answers, AreBits, ReadsNumber, ReadsFit};
+
+use crate::RowError;
+use crate::characters::{first, split_first};
+use numerals::{Radix, read_digits};
+use row_format::RowField;
+use scan_fmt::parse::ReadSlice;
+use sprintf::parser::ConversionType;
+use std::alloc::Global;
+use values::{Kind, Value, Word};
+
+/// The longest word that fits: the default precision of printing cuts no shorter one.
+const LONGEST_WORD: usize = 2147483647;
+
+/// The number that the token stands for in decimal.
+fn decimal(kind: Kind, token: &str) -> Option<Value>
+    ensures { Finds (ReadsDecimal kind token.now) kind result }
+{
+    let value = match kind {
+        Kind::U8 => Value::U8(u8::read_slice(token)?),
+        Kind::U16 => Value::U16(u16::read_slice(token)?),
+        Kind::U32 => Value::U32(u32::read_slice(token)?),
+        Kind::U64 => Value::U64(u64::read_slice(token)?),
+        Kind::Usize => Value::Usize(usize::read_slice(token)?),
+        Kind::I8 => Value::I8(i8::read_slice(token)?),
+        Kind::I16 => Value::I16(i16::read_slice(token)?),
+        Kind::I32 => Value::I32(i32::read_slice(token)?),
+        Kind::I64 => Value::I64(i64::read_slice(token)?),
+        Kind::Isize => Value::Isize(isize::read_slice(token)?),
+        Kind::Word | Kind::Char => return None,
+    };
+    Some(value)
+}
+
+/// The number of the kind that has these bits.
+fn of_bits(kind: Kind, bits: u128) -> Option<Value>
+    ensures { Finds (AreBits kind bits) kind result }
+{
+    let value = match kind {
+        Kind::U8 => Value::U8(u8::try_from(bits).ok()?),
+        Kind::U16 => Value::U16(u16::try_from(bits).ok()?),
+        Kind::U32 => Value::U32(u32::try_from(bits).ok()?),
+        Kind::U64 => Value::U64(u64::try_from(bits).ok()?),
+        Kind::Usize => Value::Usize(usize::try_from(bits).ok()?),
+        Kind::I8 => Value::I8(u8::try_from(bits).ok()?.cast_signed()),
+        Kind::I16 => Value::I16(u16::try_from(bits).ok()?.cast_signed()),
+        Kind::I32 => Value::I32(u32::try_from(bits).ok()?.cast_signed()),
+        Kind::I64 => Value::I64(u64::try_from(bits).ok()?.cast_signed()),
+        Kind::Isize => Value::Isize(usize::try_from(bits).ok()?.cast_signed()),
+        Kind::Word | Kind::Char => return None,
+    };
+    Some(value)
+}
+
+/// The number that the token stands for in the radix, or whose two's complement it is.
+fn based(kind: Kind, token: &str, radix: Radix) -> Option<Value>
+    ensures { Finds (StandsFor (base_of radix) kind token.now) kind result }
+{
+    let bits = read_digits(token, radix)?;
+    of_bits(kind, bits)
+}
+
+/// The number that the token reads to by the conversion.
+fn number(conversion: ConversionType, kind: Kind, token: &str) -> Option<Value>
+    ensures { Finds (ReadsNumber conversion kind (chars token.now)) kind result }
+{
+    match conversion {
+        ConversionType::DecInt => decimal(kind, token),
+        ConversionType::OctInt => based(kind, token, Radix::Eight),
+        ConversionType::HexIntLower => based(kind, token, Radix::Sixteen),
+        ConversionType::HexIntUpper => based(kind, token, Radix::Sixteen),
+        _ => None,
+    }
+}
+
+/// Whether the character may stand in a word before the stop character.
+fn suits(stop: Option<char>, character: char) -> bool
+    ensures { IsTrue result ↔ Suits (Until stop) character }
+{
+    let blank = character == ' ' || character == '\t' || character == '\n' || character == '\r';
+    !blank && Some(character) != stop
+}
+
+/// Whether all characters may.
+fn all_suit(stop: Option<char>, text: &str) -> bool
+    ensures { IsTrue result ↔ AllByRecursion (Suits (Until stop)) (chars text.now) }
+{
+    let mut rest = text;
+    'characters: while let Some((character, after)) = split_first(rest) {
+        if !suits(stop, character) {
+            return false;
+        }
+        rest = after;
+    }
+    true
+}
+
+/// Whether the text is a word that may stand before the stop character.
+fn is_word(stop: Option<char>, text: &str) -> bool
+    ensures { IsTrue result ↔ MayStandBefore stop (word text.now) }
+{
+    !text.is_empty() && text.len() <= LONGEST_WORD && all_suit(stop, text)
+}
+
+/// The token as a word, where it fits.
+fn word(alloc: Global, stop: Option<char>, token: &str) -> Result<Value, RowError>
+    ensures { Answers (λ value. IsTextOf (chars token.now) value × MayStandBefore stop value) Kind.Word result }
+{
+    if !is_word(stop, token) {
+        return Err(RowError::NotARow);
+    }
+    match Word::new(alloc, token) {
+        Ok(word) => Ok(Value::Word(word)),
+        Err(_) => Err(RowError::NoMemory),
+    }
+}
+
+/// The token as one character, where it fits.
+fn character(stop: Option<char>, token: &str) -> Result<Value, RowError>
+    ensures { Answers (λ value. IsTextOf (chars token.now) value × MayStandBefore stop value) Kind.Char result }
+{
+    let Some(character) = char::read_slice(token) else {
+        return Err(RowError::NotARow);
+    };
+    if !suits(stop, character) {
+        return Err(RowError::NotARow);
+    }
+    Ok(Value::Char(character))
+}
+
+/// The token as a word or a character, by the kind.
+fn text(alloc: Global, kind: Kind, stop: Option<char>, token: &str) -> Result<Value, RowError>
+    ensures { Answers (λ value. IsTextOf (chars token.now) value × MayStandBefore stop value) kind result }
+{
+    match kind {
+        Kind::Word => word(alloc, stop, token),
+        Kind::Char => character(stop, token),
+        _ => Err(RowError::NotARow),
+    }
+}
+
+/// The value of the kind that the token of a field reads to, if it fits.
+pub fn read_token(
+    alloc: Global,
+    field: &RowField,
+    kind: Kind,
+    token: &str,
+) -> Result<Value, RowError>
+    ensures { Answers (ReadsFit field.now kind (chars token.now)) kind result }
+{
+    match field.field().conversion_type {
+        ConversionType::String => text(alloc, kind, first(field.after()), token),
+        ConversionType::Char => text(alloc, kind, first(field.after()), token),
+        conversion => number(conversion, kind, token).ok_or(RowError::NotARow),
+    }
+}

@@ -1,0 +1,5 @@
+//! The sample, as a user of it sees it.
+#![tactic(auto)]
+
+#[cfg(test)]
+mod tests;
