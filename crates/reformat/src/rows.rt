@@ -60,10 +60,7 @@ fn read_values(
     ensures read { IfOk result (λ values. IsRead source.now.plan row.now values.items) }
     ensures refused { IfRefused result (IsNoRow source.now.plan number row.now) }
 {
-    match source
-        .plan
-        .read_row_by(alloc, &source.format, row, again)
-    {
+    match source.plan.read_row_by(alloc, &source.format, row, again) {
         Ok(values) => Ok(values),
         Err(RowError::NotARow) => Err(Refusal::Line(LineCause::NotARow { line: number })),
         Err(RowError::NoMemory) => Err(Refusal::NoMemory),

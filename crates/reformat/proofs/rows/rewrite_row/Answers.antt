@@ -24,7 +24,7 @@ returns-in-Ok-clause-kept c =
     on_ok c.end_line.result (λ e. (
       text,
       rewritten c.prints_columns.ensures c.args.source.now c.args.printer.now c.args.row.now text c.in_ok-values.values.items c.requires.source c.requires.names c.in_ok-values.ensures.read
-        (printed_of c.args.printer.now c.deref.result.now c.in_ok-values.values.items (Ok text) c.deref.ensures.value c.in-Ok.ensures.ok.1),
+          (printed_of c.args.printer.now c.deref.result.now c.in_ok-values.values.items (Ok text) c.deref.ensures.value c.in-Ok.ensures.ok.1),
       ended (string_bytes c.args.out.now) text (string_bytes c.text_into.new.out) (string_bytes c.end_line.new.out) c.in-Ok.ensures.ok.2 e,
     )) c.end_line.ensures.ok
 
