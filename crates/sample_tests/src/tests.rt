@@ -14,6 +14,9 @@ const ROWS: &str = "\
 
 /// Whether the sample of n rows is the headers and these rows.
 fn is_sample(alloc: Global, n: u64, rows: &str) -> Result<bool, Fail> {
+    if n > 1000000 {
+        return Ok(false);
+    }
     let bytes = sample_input(alloc, n).ok().ok_or("no memory")?;
     Ok(match bytes.strip_prefix(HEADERS.as_bytes()) {
         Some(rest) => rest == rows.as_bytes(),
