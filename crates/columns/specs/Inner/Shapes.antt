@@ -1,0 +1,33 @@
+-- What the text of a field may be.
+use Rattle.std.specs.Prelude.{◌≡◌, ◌<◌, ◌≤◌, ◌++◌, ℕ, List, length}
+use Rattle.std.specs.Str.Parse.{AllDigits, digits_value}
+use Rattle.numerals.specs.Laws.{HasNoLeadingZero}
+use Rattle.columns.specs.declared.take.Take.{Take}
+use Rattle.columns.specs.declared.take.Take.TheVariants.{Natural}
+
+-- Digits in decimal that stand for the number.
+pub record AreDigits (text : List ℕ) (number : ℕ) : Type 0 where
+  pub digits : AllDigits 10 text
+  pub value : digits_value 10 text ≡ number
+
+-- At least one digit, no zero in front of others, and the number that they stand for.
+pub record IsNatural (text : List ℕ) (number : ℕ) : Type 0 where
+  pub some : 0 < length text
+  pub lead : HasNoLeadingZero text
+  pub digits : AreDigits text number
+
+-- Such a text stands in front.
+pub record IsNaturalInFront (text : List ℕ) (number : ℕ) (rest : List ℕ) : Type 0 where
+  pub token : List ℕ
+  pub whole : text ≡ token ++ rest
+  pub shape : IsNatural token number
+
+-- The text and the number that a field may take.
+abbrev pub Shape : Take → List ℕ → ℕ → Type 0
+Shape (Natural greatest) text number = IsNatural text number × (number ≤ greatest)
+
+-- A text that the field may take stands in front.
+pub record IsTaken (take : Take) (text : List ℕ) (number : ℕ) (rest : List ℕ) : Type 0 where
+  pub token : List ℕ
+  pub whole : text ≡ token ++ rest
+  pub shape : Shape take token number

@@ -1,0 +1,77 @@
+// What a field's text may be, and how it is taken.
+ghost use Rattle.std.specs.Prelude.{◌≡◌, IfSome, Some};
+ghost use Rattle.sprintf.specs.Field.{number_of};
+ghost use Rattle.columns.specs.Inner.Serves.{Serves, IsGreatest};
+ghost use Rattle.columns.specs.Inner.Shapes.{IsTaken};
+
+use crate::number::take_natural;
+use numerals::numeral_of_value;
+use row_format::RowField;
+use sprintf::{ConversionSpecifier, ConversionType, NumericParam};
+use values::Kind;
+
+/// What a field's text may be.
+#[derive(Clone, Copy)]
+pub(crate) enum Take {
+    /// A number of at most this, as numbers are printed in decimal.
+    Natural { greatest: u64 },
+}
+
+// The greatest number of a kind without signs.
+fn greatest_of(kind: Kind) -> Option<u64>
+    ensures { IfSome result (IsGreatest kind) }
+{
+    match kind {
+        Kind::U8 => Some(255),
+        Kind::U16 => Some(65_535),
+        Kind::U32 => Some(4_294_967_295),
+        Kind::U64 | Kind::Usize => Some(u64::MAX),
+        _ => None,
+    }
+}
+
+// The width of a field, where it is a number.
+fn width_of(field: &ConversionSpecifier) -> Option<usize>
+    ensures { IfSome result (λ width. number_of field.now.width ≡ Some width) }
+{
+    match field.width {
+        NumericParam::Literal(width) => Some(usize::try_from(width).unwrap_or(0)),
+        NumericParam::FromArgument => None,
+    }
+}
+
+// How the fields of a decimal conversion are taken.
+fn decimal_take(field: &RowField, kind: Kind) -> Option<Take>
+    requires { field.now.field.conversion_type ≡ ConversionType.DecInt }
+    ensures { IfSome result (λ take. Serves field.now.field kind field.now.after take) }
+{
+    numeral_of_value();
+    if width_of(field.field())? != 0 {
+        return None;
+    }
+    Some(Take::Natural {
+        greatest: greatest_of(kind)?,
+    })
+}
+
+impl Take {
+    /// The way of taking that serves the field, if there is one.
+    pub(crate) fn of(field: &RowField, kind: Kind) -> Option<Take>
+        ensures { IfSome result (λ take. Serves field.now.field kind field.now.after take) }
+    {
+        match field.field().conversion_type {
+            ConversionType::DecInt => decimal_take(field, kind),
+            _ => None,
+        }
+    }
+
+    /// The number in front, and what stands behind its text.
+    #[inline(always)]
+    pub(crate) fn take(self, text: &[u8]) -> Option<(u64, &[u8])>
+        ensures { IfSome result (λ found. IsTaken self text.now found.0 found.1.now) }
+    {
+        match self {
+            Take::Natural { greatest } => take_natural(text, greatest),
+        }
+    }
+}
