@@ -1,5 +1,5 @@
 -- What the tokens of a row stand for.
-use Rattle.std.specs.Prelude.{◌≤◌, ℕ, List, [], ◌∷◌, slice_range, ⊤}
+use Rattle.std.specs.Prelude.{◌≤◌, ◌+◌, ℕ, List, [], ◌∷◌, slice_range, ⊤}
 use Rattle.std.specs.Int.{w64, cast_signed}
 use Rattle.std.specs.Str.{IsCharBoundary}
 use Rattle.values.specs.declared.kind.Kind.{Kind}
@@ -27,12 +27,18 @@ abbrev pub data_of : List Kind → List ℕ → List Token → List Datum
 data_of (kind ∷ kinds) row (token ∷ tokens) = datum_at kind row token ∷ data_of kinds row tokens
 data_of _ row _ = []
 
+-- A word isn't longer than what a printf format prints whole.
+abbrev pub IsPrintedWhole : Kind → Token → Type 0
+IsPrintedWhole Word token = token.end ≤ token.start + 2147483647
+IsPrintedWhole _ token = ⊤
+
 -- The token stands in the row between two characters, and its value is of the kind.
 pub record IsToken (kind : Kind) (row : List ℕ) (token : Token) : Type 0 where
   pub ordered : token.start ≤ token.end
   pub starts : IsCharBoundary row token.start
   pub ends : IsCharBoundary row token.end
   pub value : IsOfKind kind (datum_at kind row token)
+  pub whole : IsPrintedWhole kind token
 
 -- There is one token of the row for each of the kinds.
 abbrev pub AreTokens : List Kind → List ℕ → List Token → Type 0
