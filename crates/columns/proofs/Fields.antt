@@ -23,11 +23,12 @@ use Rattle.values.specs.declared.kind.Kind.TheVariants.{U8, U16, U32, U64, Usize
 use Rattle.values.specs.Datum.{Datum, natural, IsOfKind}
 use Rattle.row_format.specs.Columns.{field_text, text_or_none}
 use Rattle.row_format.specs.Fit.{IsFit}
-use Rattle.columns.specs.Tokens.{token_text, datum_at}
+use Rattle.columns.specs.Fields.{token_text}
+use Rattle.tokens.specs.Tokens.{datum_at}
 use Rattle.columns.specs.Inner.Serves.{Serves, IsGreatest}
 use Rattle.columns.specs.Inner.Shapes.{IsNatural}
 use Rattle.columns.specs.declared.take.Take.TheVariants.{Natural}
-use Rattle.columns.specs.declared.token.Token.{Token}
+use Rattle.tokens.specs.declared.Token.{Token}
 
 -- std's words for digits, and those of numerals
 

@@ -5,7 +5,7 @@ mod number;
 mod row;
 mod step;
 mod take;
-mod token;
+mod word;
 
 pub use row::Columns;
-pub use token::Token;
+pub use tokens::Token;

@@ -2,14 +2,15 @@
 ghost use Rattle.std.specs.Prelude.{◌≡◌, IfSome, IfOk, IsTrue};
 ghost use Rattle.row_format.specs.Row.{IsRow};
 ghost use Rattle.columns.specs.Inner.Steps.{columns_of, kinds_of, AreServed, AreStepsRead, IsEnd};
-ghost use Rattle.columns.specs.Tokens.{data_of, AreFieldsAt};
+ghost use Rattle.columns.specs.Fields.{AreFieldsAt};
+ghost use Rattle.tokens.specs.Tokens.{data_of, AreTokens};
 
-use crate::Token;
 use crate::step::{Step, behind};
 use numerals::NoMemory;
 use row_format::{RowField, RowFormat};
 use std::alloc::Global;
 use std::marker::Model;
+use tokens::Token;
 use values::Kind;
 
 /// The steps by which the rows of a format are read. It owns copies of the format's texts, fields and kinds.
@@ -104,6 +105,7 @@ impl Columns {
     /// Reads a row into tokens, one for each field. False says nothing, and then what the tokens are isn't fixed.
     pub fn read(&self, row: &str, tokens: &mut Vec<Token>) -> Result<bool, NoMemory>
         ensures sound { IfOk result (λ found. IsTrue found → IsRow self.now.format self.now.kinds row.now (data_of self.now.kinds row.now tokens.new.items)) }
+        ensures tokens { IfOk result (λ found. IsTrue found → AreTokens self.now.kinds row.now tokens.new.items) }
         ensures fields { IfOk result (λ found. IsTrue found → AreFieldsAt self.now.format.columns self.now.kinds row.now tokens.new.items) }
     {
         let row = row.as_bytes();

@@ -2,12 +2,12 @@
 ghost use Rattle.std.specs.Prelude.{◌≡◌, ◌++◌, IfSome, IfOk, string_bytes};
 ghost use Rattle.columns.specs.Inner.Steps.{column_of, IsEnd, IsServedStep, IsStepRead};
 
-use crate::Token;
 use crate::take::Take;
 use numerals::NoMemory;
 use row_format::RowField;
 use sprintf::ConversionSpecifier;
 use std::alloc::Global;
+use tokens::Token;
 use values::Kind;
 
 /// A field, how it is taken, and the literal text behind it.

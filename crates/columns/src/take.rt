@@ -1,13 +1,14 @@
 // What a field's text may be, and how it is taken.
-ghost use Rattle.std.specs.Prelude.{◌≡◌, IfSome, Some};
+ghost use Rattle.std.specs.Prelude.{◌≡◌, IfSome, IsUtf8, Some};
 ghost use Rattle.sprintf.specs.Field.{number_of};
-ghost use Rattle.columns.specs.Inner.Serves.{Serves, IsGreatest};
+ghost use Rattle.columns.specs.Inner.Serves.{Serves, IsGreatest, IsStop};
 ghost use Rattle.columns.specs.Inner.Shapes.{IsTaken};
 
 use crate::number::take_natural;
+use crate::word::{LONGEST, take_word};
 use numerals::numeral_of_value;
 use row_format::RowField;
-use sprintf::{ConversionSpecifier, ConversionType, NumericParam};
+use sprintf::{ConversionType, NumericParam};
 use values::Kind;
 
 /// What a field's text may be.
@@ -15,6 +16,8 @@ use values::Kind;
 pub(crate) enum Take {
     /// A number of at most this, as numbers are printed in decimal.
     Natural { greatest: u64 },
+    /// A word without this byte, which is ASCII: the stop character, else a line feed.
+    Word { stop: u8 },
 }
 
 // The greatest number of a kind without signs.
@@ -30,12 +33,12 @@ fn greatest_of(kind: Kind) -> Option<u64>
     }
 }
 
-// The width of a field, where it is a number.
-fn width_of(field: &ConversionSpecifier) -> Option<usize>
-    ensures { IfSome result (λ width. number_of field.now.width ≡ Some width) }
+// A width or a precision, where it is a number.
+fn number_in(param: NumericParam) -> Option<usize>
+    ensures { IfSome result (λ number. number_of param ≡ Some number) }
 {
-    match field.width {
-        NumericParam::Literal(width) => Some(usize::try_from(width).unwrap_or(0)),
+    match param {
+        NumericParam::Literal(number) => Some(usize::try_from(number).unwrap_or(0)),
         NumericParam::FromArgument => None,
     }
 }
@@ -46,11 +49,41 @@ fn decimal_take(field: &RowField, kind: Kind) -> Option<Take>
     ensures { IfSome result (λ take. Serves field.now.field kind field.now.after take) }
 {
     numeral_of_value();
-    if width_of(field.field())? != 0 {
+    if number_in(field.field().width)? != 0 {
         return None;
     }
     Some(Take::Natural {
         greatest: greatest_of(kind)?,
+    })
+}
+
+// The byte in front of which a word ends, if that is ASCII.
+fn stop_of(after: &str) -> Option<u8>
+    ensures { IfSome result (IsStop after.now) }
+{
+    match after.as_bytes() {
+        [] => Some(b'\n'),
+        [first @ 0..=127, ..] => Some(*first),
+        _ => None,
+    }
+}
+
+// How the fields of words are taken.
+fn word_take(field: &RowField, kind: Kind) -> Option<Take>
+    requires { field.now.field.conversion_type ≡ ConversionType.String }
+    ensures { IfSome result (λ take. Serves field.now.field kind field.now.after take) }
+{
+    let Kind::Word = kind else {
+        return None;
+    };
+    if number_in(field.field().width)? != 0 {
+        return None;
+    }
+    if number_in(field.field().precision)? != LONGEST {
+        return None;
+    }
+    Some(Take::Word {
+        stop: stop_of(field.after())?,
     })
 }
 
@@ -61,6 +94,7 @@ impl Take {
     {
         match field.field().conversion_type {
             ConversionType::DecInt => decimal_take(field, kind),
+            ConversionType::String => word_take(field, kind),
             _ => None,
         }
     }
@@ -68,10 +102,12 @@ impl Take {
     /// The number in front, and what stands behind its text.
     #[inline(always)]
     pub(crate) fn take(self, text: &[u8]) -> Option<(u64, &[u8])>
+        requires { IsUtf8 text.now }
         ensures { IfSome result (λ found. IsTaken self text.now found.0 found.1.now) }
     {
         match self {
             Take::Natural { greatest } => take_natural(text, greatest),
+            Take::Word { stop } => take_word(text, stop),
         }
     }
 }

@@ -1,14 +1,17 @@
 -- Which way of taking serves a field.
-use Rattle.std.specs.Prelude.{◌≡◌, ℕ, List}
+use Rattle.std.specs.Prelude.{◌≡◌, ◌<◌, ℕ, List, Some, false}
+use Rattle.std.specs.Str.{chars}
+use Rattle.scan_fmt.specs.Directives.{first, is_blank}
 use Rattle.sprintf.specs.declared.parser.ConversionSpecifier.{ConversionSpecifier}
 use Rattle.values.specs.declared.kind.Kind.{Kind}
 use Rattle.values.specs.declared.kind.Kind.TheVariants.{U8, U16, U32, U64, Usize}
 use Rattle.row_format.specs.Columns.{field_text}
 use Rattle.row_format.specs.Fit.{IsFit}
 use Rattle.columns.specs.Inner.Shapes.{Shape}
-use Rattle.columns.specs.Tokens.{token_text, datum_at}
+use Rattle.columns.specs.Fields.{token_text}
+use Rattle.tokens.specs.Tokens.{datum_at}
 use Rattle.columns.specs.declared.take.Take.{Take}
-use Rattle.columns.specs.declared.token.Token.{Token}
+use Rattle.tokens.specs.declared.Token.{Token}
 
 -- What the token denotes fits the field, which prints of it what stands there.
 pub record IsServed (field : ConversionSpecifier) (kind : Kind) (after row : List ℕ) (token : Token) : Type 0 where
@@ -27,3 +30,8 @@ IsGreatest U32 n = n ≡ 4294967295
 IsGreatest U64 n = n ≡ 18446744073709551615
 IsGreatest Usize n = n ≡ 18446744073709551615
 IsGreatest _ n = ⊥
+
+-- In front of the literal text no character but white space and this one ends a word.
+pub record IsStop (after : List ℕ) (stop : ℕ) : Type 0 where
+  pub ascii : stop < 128
+  pub is : (c : ℕ) → is_blank c ≡ false → Some c ≡ first (chars after) → c ≡ stop

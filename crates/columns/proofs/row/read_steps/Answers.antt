@@ -1,6 +1,6 @@
 use Rattle.std.proofs.Common.{◌≡◌, ◌++◌, [], ◌∷◌, ◌+◌, take, rules, List, sym, subst}
 use Rattle.columns.specs.Inner.Steps.{columns_of, kinds_of, AreStepsRead}
-use Rattle.columns.specs.declared.token.Token.{Token}
+use Rattle.tokens.specs.declared.Token.{Token}
 use Rattle.columns.proofs.Rows.{served_at, steps_more}
 use Rattle.columns.proofs.row.read_steps.Goals as goal
 
