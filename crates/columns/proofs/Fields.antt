@@ -68,7 +68,7 @@ filled_by false false lead digits room e = rw e refl
 pub bare_number : (f : ConversionSpecifier) (lead : List ℕ) (n : ℕ) → f.conversion_type ≡ DecInt → number_of f.width ≡ Some 0 → number_text f lead n ≡ Ok (lead ++ numeral 10 false n)
 bare_number f lead n decimal width = rw (width, decimal) (ap Ok (filled_by f.left_adj f.zero_pad lead (numeral 10 false n) _ (omega arith)))
 
-no_prefix : (alternate : Bool) → (if alternate then prefix_of DecInt else []) ≡ []
+pub no_prefix : (alternate : Bool) → (if alternate then prefix_of DecInt else []) ≡ []
 no_prefix true = refl
 no_prefix false = refl
 
@@ -77,22 +77,22 @@ bare_unsigned f n decimal width =
     let lead : (if f.alt_form then prefix_of f.conversion_type else []) ≡ [] = rw decimal (no_prefix f.alt_form) in
     ap (λ (l : List ℕ). number_text f l n) lead ∙ bare_number f [] n decimal width
 
-by_decimal : (conversion : ConversionType) (digits character word : Result (List ℕ) PrintfError) → conversion ≡ DecInt → by_conversion conversion digits character word ≡ digits
+pub by_decimal : (conversion : ConversionType) (digits character word : Result (List ℕ) PrintfError) → conversion ≡ DecInt → by_conversion conversion digits character word ≡ digits
 by_decimal conversion digits character word decimal = ap (λ (k : ConversionType). by_conversion k digits character word) decimal
 
-told_unsigned : (f : ConversionSpecifier) (n : ℕ) (character word : Result (List ℕ) PrintfError) → f.conversion_type ≡ DecInt → number_of f.width ≡ Some 0 → text_or_none (by_conversion f.conversion_type (unsigned_text f n) character word) ≡ numeral 10 false n
-told_unsigned f n character word decimal width = ap text_or_none (by_decimal f.conversion_type (unsigned_text f n) character word decimal ∙ bare_unsigned f n decimal width)
+told_unsigned : (f : ConversionSpecifier) (n : ℕ) (text : List ℕ) (character word : Result (List ℕ) PrintfError) → f.conversion_type ≡ DecInt → unsigned_text f n ≡ Ok text → text_or_none (by_conversion f.conversion_type (unsigned_text f n) character word) ≡ text
+told_unsigned f n text character word decimal is = ap text_or_none (by_decimal f.conversion_type (unsigned_text f n) character word decimal ∙ is)
 
--- the field of a kind without signs prints the numeral
-unsigned_field : (f : ConversionSpecifier) (kind : Kind) (greatest n : ℕ) → f.conversion_type ≡ DecInt → number_of f.width ≡ Some 0 → IsGreatest kind greatest → field_text f kind (natural n) ≡ numeral 10 false n
-unsigned_field f U8 greatest n decimal width is = told_unsigned f n _ _ decimal width
-unsigned_field f U16 greatest n decimal width is = told_unsigned f n _ _ decimal width
-unsigned_field f U32 greatest n decimal width is = told_unsigned f n _ _ decimal width
-unsigned_field f U64 greatest n decimal width is = told_unsigned f n _ _ decimal width
-unsigned_field f Usize greatest n decimal width is = told_unsigned f n _ _ decimal width
-unsigned_field f _ greatest n decimal width is = absurd is
+-- the field of a kind without signs prints the text of an unsigned number
+pub unsigned_field : (f : ConversionSpecifier) (kind : Kind) (greatest n : ℕ) (text : List ℕ) → f.conversion_type ≡ DecInt → unsigned_text f n ≡ Ok text → IsGreatest kind greatest → field_text f kind (natural n) ≡ text
+unsigned_field f U8 greatest n text decimal told is = told_unsigned f n text _ _ decimal told
+unsigned_field f U16 greatest n text decimal told is = told_unsigned f n text _ _ decimal told
+unsigned_field f U32 greatest n text decimal told is = told_unsigned f n text _ _ decimal told
+unsigned_field f U64 greatest n text decimal told is = told_unsigned f n text _ _ decimal told
+unsigned_field f Usize greatest n text decimal told is = told_unsigned f n text _ _ decimal told
+unsigned_field f _ greatest n text decimal told is = absurd is
 
-unsigned_datum : (kind : Kind) (greatest : ℕ) (row : List ℕ) (token : Token) → IsGreatest kind greatest → datum_at kind row token ≡ natural token.number
+pub unsigned_datum : (kind : Kind) (greatest : ℕ) (row : List ℕ) (token : Token) → IsGreatest kind greatest → datum_at kind row token ≡ natural token.number
 unsigned_datum U8 greatest row token is = refl
 unsigned_datum U16 greatest row token is = refl
 unsigned_datum U32 greatest row token is = refl
@@ -100,7 +100,7 @@ unsigned_datum U64 greatest row token is = refl
 unsigned_datum Usize greatest row token is = refl
 unsigned_datum _ greatest row token is = absurd is
 
-in_range : (kind : Kind) (greatest n : ℕ) → IsGreatest kind greatest → n ≤ greatest → IsOfKind kind (natural n) × (n < 2 ^ 64)
+pub in_range : (kind : Kind) (greatest n : ℕ) → IsGreatest kind greatest → n ≤ greatest → IsOfKind kind (natural n) × (n < 2 ^ 64)
 in_range U8 greatest n is le = (omega (arith, is, le), omega (arith, is, le))
 in_range U16 greatest n is le = (omega (arith, is, le), omega (arith, is, le))
 in_range U32 greatest n is le = (omega (arith, is, le), omega (arith, is, le))
@@ -114,5 +114,5 @@ serves_natural law f kind after greatest decimal width is row token shape =
     let range = in_range kind greatest token.number is shape.1 in
     record {
       fit = subst (λ (d : Datum). IsFit (record { field = f; after = after }) kind d) (sym datum) (range.0, tt);
-      text = natural_text law (token_text row token) token.number shape.0 range.1 ∙ sym (unsigned_field f kind greatest token.number decimal width is) ∙ ap (field_text f kind) (sym datum);
+      text = natural_text law (token_text row token) token.number shape.0 range.1 ∙ sym (unsigned_field f kind greatest token.number (numeral 10 false token.number) decimal (bare_unsigned f token.number decimal width) is) ∙ ap (field_text f kind) (sym datum);
     }

@@ -1,7 +1,7 @@
 // Numbers in front of a text.
-ghost use Rattle.std.specs.Prelude.{◌≤◌, length, IfSome, take};
+ghost use Rattle.std.specs.Prelude.{◌≡◌, ◌≢◌, ◌<◌, ◌≤◌, false, length, slice_index, IfSome, take};
 ghost use Rattle.columns.specs.Inner.Shapes.{AreDigits, IsNaturalInFront, IsTaken};
-ghost use Rattle.columns.specs.declared.take.Take.TheVariants.{Natural};
+ghost use Rattle.columns.specs.declared.take.Take.TheVariants.{Natural, Filled};
 
 /// As many digits as any number has that 64 bits hold, but for one.
 const SAFE: usize = 19;
@@ -78,4 +78,28 @@ pub(crate) fn take_natural(text: &[u8], greatest: u64) -> Option<(u64, &[u8])>
 {
     let (number, rest) = natural_in_front(text)?;
     (number <= greatest).then_some((number, rest))
+}
+
+// Whether digits begin with a zero in front of others.
+#[inline(always)]
+fn has_zero_in_front(text: &[u8], count: usize) -> bool
+    requires { count ≤ length text.now }
+    ensures { result ≡ false → 1 < count → slice_index text.now 0 ≢ 48 }
+{
+    count > 1 && text[0] == b'0'
+}
+
+/// The number in front, filled with zeros to the width, and what stands behind it; of at most this.
+#[inline(always)]
+pub(crate) fn take_filled(text: &[u8], greatest: u64, width: usize) -> Option<(u64, &[u8])>
+    ensures { IfSome result (λ found. IsTaken (Filled greatest width) text.now found.0 found.1.now) }
+{
+    let (number, count) = long_digits_in_front(text)?;
+    if count == 0 || count < width || number > greatest {
+        return None;
+    }
+    if count > width && has_zero_in_front(text, count) {
+        return None;
+    }
+    Some((number, &text[count..]))
 }

@@ -1,14 +1,14 @@
 // What a field's text may be, and how it is taken.
-ghost use Rattle.std.specs.Prelude.{◌≡◌, IfSome, IsUtf8, Some};
+ghost use Rattle.std.specs.Prelude.{◌≡◌, IfSome, IsUtf8, Some, true, false};
 ghost use Rattle.sprintf.specs.Field.{number_of};
 ghost use Rattle.columns.specs.Inner.Serves.{Serves, IsGreatest, IsStop};
 ghost use Rattle.columns.specs.Inner.Shapes.{IsTaken};
 
-use crate::number::take_natural;
+use crate::number::{take_filled, take_natural};
 use crate::word::{LONGEST, take_word};
 use numerals::numeral_of_value;
 use row_format::RowField;
-use sprintf::{ConversionType, NumericParam};
+use sprintf::{ConversionSpecifier, ConversionType, NumericParam};
 use values::Kind;
 
 /// What a field's text may be.
@@ -16,6 +16,8 @@ use values::Kind;
 pub(crate) enum Take {
     /// A number of at most this, as numbers are printed in decimal.
     Natural { greatest: u64 },
+    /// Such a number, filled with zeros to the width.
+    Filled { greatest: u64, width: usize },
     /// A word without this byte, which is ASCII: the stop character, else a line feed.
     Word { stop: u8 },
 }
@@ -43,6 +45,28 @@ fn number_in(param: NumericParam) -> Option<usize>
     }
 }
 
+// Whether zeros fill the field to its width.
+fn is_filled(field: &ConversionSpecifier) -> bool
+    ensures { result ≡ true → (field.now.zero_pad ≡ true) × (field.now.left_adj ≡ false) }
+{
+    field.zero_pad && !field.left_adj
+}
+
+// How the fields of a decimal conversion are taken that zeros fill to their widths.
+fn filled_take(field: &RowField, kind: Kind) -> Option<Take>
+    requires { field.now.field.conversion_type ≡ ConversionType.DecInt }
+    ensures { IfSome result (λ take. Serves field.now.field kind field.now.after take) }
+{
+    numeral_of_value();
+    if !is_filled(field.field()) {
+        return None;
+    }
+    Some(Take::Filled {
+        greatest: greatest_of(kind)?,
+        width: number_in(field.field().width)?,
+    })
+}
+
 // How the fields of a decimal conversion are taken.
 fn decimal_take(field: &RowField, kind: Kind) -> Option<Take>
     requires { field.now.field.conversion_type ≡ ConversionType.DecInt }
@@ -50,7 +74,7 @@ fn decimal_take(field: &RowField, kind: Kind) -> Option<Take>
 {
     numeral_of_value();
     if number_in(field.field().width)? != 0 {
-        return None;
+        return filled_take(field, kind);
     }
     Some(Take::Natural {
         greatest: greatest_of(kind)?,
@@ -107,6 +131,7 @@ impl Take {
     {
         match self {
             Take::Natural { greatest } => take_natural(text, greatest),
+            Take::Filled { greatest, width } => take_filled(text, greatest, width),
             Take::Word { stop } => take_word(text, stop),
         }
     }

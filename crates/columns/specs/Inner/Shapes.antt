@@ -5,7 +5,7 @@ use Rattle.std.specs.List.{AllByRecursion}
 use Rattle.scan_fmt.specs.Directives.{is_blank}
 use Rattle.numerals.specs.Laws.{HasNoLeadingZero}
 use Rattle.columns.specs.declared.take.Take.{Take}
-use Rattle.columns.specs.declared.take.Take.TheVariants.{Natural, Word}
+use Rattle.columns.specs.declared.take.Take.TheVariants.{Natural, Filled, Word}
 
 -- Digits in decimal that stand for the number.
 pub record AreDigits (text : List ℕ) (number : ℕ) : Type 0 where
@@ -18,7 +18,14 @@ pub record IsNatural (text : List ℕ) (number : ℕ) : Type 0 where
   pub lead : HasNoLeadingZero text
   pub digits : AreDigits text number
 
--- Such a text stands in front.
+-- At least so many digits and at least one, no zero in front of others where there are more, and the number that they stand for.
+pub record IsFilled (width : ℕ) (text : List ℕ) (number : ℕ) : Type 0 where
+  pub some : 0 < length text
+  pub wide : width ≤ length text
+  pub lead : width < length text → HasNoLeadingZero text
+  pub digits : AreDigits text number
+
+-- A number's text stands in front.
 pub record IsNaturalInFront (text : List ℕ) (number : ℕ) (rest : List ℕ) : Type 0 where
   pub token : List ℕ
   pub whole : text ≡ token ++ rest
@@ -38,6 +45,7 @@ pub record IsWord (stop : ℕ) (text : List ℕ) : Type 0 where
 -- The text and the number that a field may take.
 abbrev pub Shape : Take → List ℕ → ℕ → Type 0
 Shape (Natural greatest) text number = IsNatural text number × (number ≤ greatest)
+Shape (Filled greatest width) text number = IsFilled width text number × (number ≤ greatest)
 Shape (Word stop) text number = (number ≡ 0) × IsWord stop text
 
 -- A text that the field may take stands in front.
