@@ -1,0 +1,37 @@
+-- Which way of taking serves a field.
+use Rattle.std.specs.Prelude.{◌≡◌, ◌<◌, ℕ, List, Some, false}
+use Rattle.std.specs.Str.{chars}
+use Rattle.scan_fmt.specs.Directives.{first, is_blank}
+use Rattle.sprintf.specs.declared.parser.ConversionSpecifier.{ConversionSpecifier}
+use Rattle.values.specs.declared.kind.Kind.{Kind}
+use Rattle.values.specs.declared.kind.Kind.TheVariants.{U8, U16, U32, U64, Usize}
+use Rattle.row_format.specs.Columns.{field_text}
+use Rattle.row_format.specs.Fit.{IsFit}
+use Rattle.columns.specs.Inner.Shapes.{Shape}
+use Rattle.columns.specs.Fields.{token_text}
+use Rattle.tokens.specs.Tokens.{datum_at}
+use Rattle.columns.specs.declared.take.Take.{Take}
+use Rattle.tokens.specs.declared.Token.{Token}
+
+-- What the token denotes fits the field, which prints of it what stands there.
+pub record IsServed (field : ConversionSpecifier) (kind : Kind) (after row : List ℕ) (token : Token) : Type 0 where
+  pub fit : IsFit (record { field = field; after = after }) kind (datum_at kind row token)
+  pub text : token_text row token ≡ field_text field kind (datum_at kind row token)
+
+-- Whatever is taken fits the field, which prints it again.
+abbrev pub Serves : ConversionSpecifier → Kind → List ℕ → Take → Type 0
+Serves field kind after take = (row : List ℕ) (token : Token) → Shape take (token_text row token) token.number → IsServed field kind after row token
+
+-- The number is the greatest of a kind without signs.
+abbrev pub IsGreatest : Kind → ℕ → Type 0
+IsGreatest U8 n = n ≡ 255
+IsGreatest U16 n = n ≡ 65535
+IsGreatest U32 n = n ≡ 4294967295
+IsGreatest U64 n = n ≡ 18446744073709551615
+IsGreatest Usize n = n ≡ 18446744073709551615
+IsGreatest _ n = ⊥
+
+-- In front of the literal text no character but white space and this one ends a word.
+pub record IsStop (after : List ℕ) (stop : ℕ) : Type 0 where
+  pub ascii : stop < 128
+  pub is : (c : ℕ) → is_blank c ≡ false → Some c ≡ first (chars after) → c ≡ stop

@@ -1,0 +1,138 @@
+// What a field's text may be, and how it is taken.
+ghost use Rattle.std.specs.Prelude.{◌≡◌, IfSome, IsUtf8, Some, true, false};
+ghost use Rattle.sprintf.specs.Field.{number_of};
+ghost use Rattle.columns.specs.Inner.Serves.{Serves, IsGreatest, IsStop};
+ghost use Rattle.columns.specs.Inner.Shapes.{IsTaken};
+
+use crate::number::{take_filled, take_natural};
+use crate::word::{LONGEST, take_word};
+use numerals::numeral_of_value;
+use row_format::RowField;
+use sprintf::{ConversionSpecifier, ConversionType, NumericParam};
+use values::Kind;
+
+/// What a field's text may be.
+#[derive(Clone, Copy)]
+pub(crate) enum Take {
+    /// A number of at most this, as numbers are printed in decimal.
+    Natural { greatest: u64 },
+    /// Such a number, filled with zeros to the width.
+    Filled { greatest: u64, width: usize },
+    /// A word without this byte, which is ASCII: the stop character, else a line feed.
+    Word { stop: u8 },
+}
+
+// The greatest number of a kind without signs.
+fn greatest_of(kind: Kind) -> Option<u64>
+    ensures { IfSome result (IsGreatest kind) }
+{
+    match kind {
+        Kind::U8 => Some(255),
+        Kind::U16 => Some(65_535),
+        Kind::U32 => Some(4_294_967_295),
+        Kind::U64 | Kind::Usize => Some(u64::MAX),
+        _ => None,
+    }
+}
+
+// A width or a precision, where it is a number.
+fn number_in(param: NumericParam) -> Option<usize>
+    ensures { IfSome result (λ number. number_of param ≡ Some number) }
+{
+    match param {
+        NumericParam::Literal(number) => Some(usize::try_from(number).unwrap_or(0)),
+        NumericParam::FromArgument => None,
+    }
+}
+
+// Whether zeros fill the field to its width.
+fn is_filled(field: &ConversionSpecifier) -> bool
+    ensures { result ≡ true → (field.now.zero_pad ≡ true) × (field.now.left_adj ≡ false) }
+{
+    field.zero_pad && !field.left_adj
+}
+
+// How the fields of a decimal conversion are taken that zeros fill to their widths.
+fn filled_take(field: &RowField, kind: Kind) -> Option<Take>
+    requires { field.now.field.conversion_type ≡ ConversionType.DecInt }
+    ensures { IfSome result (λ take. Serves field.now.field kind field.now.after take) }
+{
+    numeral_of_value();
+    if !is_filled(field.field()) {
+        return None;
+    }
+    Some(Take::Filled {
+        greatest: greatest_of(kind)?,
+        width: number_in(field.field().width)?,
+    })
+}
+
+// How the fields of a decimal conversion are taken.
+fn decimal_take(field: &RowField, kind: Kind) -> Option<Take>
+    requires { field.now.field.conversion_type ≡ ConversionType.DecInt }
+    ensures { IfSome result (λ take. Serves field.now.field kind field.now.after take) }
+{
+    numeral_of_value();
+    if number_in(field.field().width)? != 0 {
+        return filled_take(field, kind);
+    }
+    Some(Take::Natural {
+        greatest: greatest_of(kind)?,
+    })
+}
+
+// The byte in front of which a word ends, if that is ASCII.
+fn stop_of(after: &str) -> Option<u8>
+    ensures { IfSome result (IsStop after.now) }
+{
+    match after.as_bytes() {
+        [] => Some(b'\n'),
+        [first @ 0..=127, ..] => Some(*first),
+        _ => None,
+    }
+}
+
+// How the fields of words are taken.
+fn word_take(field: &RowField, kind: Kind) -> Option<Take>
+    requires { field.now.field.conversion_type ≡ ConversionType.String }
+    ensures { IfSome result (λ take. Serves field.now.field kind field.now.after take) }
+{
+    let Kind::Word = kind else {
+        return None;
+    };
+    if number_in(field.field().width)? != 0 {
+        return None;
+    }
+    if number_in(field.field().precision)? != LONGEST {
+        return None;
+    }
+    Some(Take::Word {
+        stop: stop_of(field.after())?,
+    })
+}
+
+impl Take {
+    /// The way of taking that serves the field, if there is one.
+    pub(crate) fn of(field: &RowField, kind: Kind) -> Option<Take>
+        ensures { IfSome result (λ take. Serves field.now.field kind field.now.after take) }
+    {
+        match field.field().conversion_type {
+            ConversionType::DecInt => decimal_take(field, kind),
+            ConversionType::String => word_take(field, kind),
+            _ => None,
+        }
+    }
+
+    /// The number in front, and what stands behind its text.
+    #[inline(always)]
+    pub(crate) fn take(self, text: &[u8]) -> Option<(u64, &[u8])>
+        requires { IsUtf8 text.now }
+        ensures { IfSome result (λ found. IsTaken self text.now found.0 found.1.now) }
+    {
+        match self {
+            Take::Natural { greatest } => take_natural(text, greatest),
+            Take::Filled { greatest, width } => take_filled(text, greatest, width),
+            Take::Word { stop } => take_word(text, stop),
+        }
+    }
+}
