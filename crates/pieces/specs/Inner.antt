@@ -1,0 +1,4 @@
+-- What only private calls and proofs cite.
+pub mod Layout
+pub mod Printf
+pub mod Sound

@@ -1,0 +1,8 @@
+//! Rows printed by templates in a fast way: a template is cut into pieces once, and a row's tokens are put between them.
+#![tactic(auto)]
+
+mod layout;
+mod pieces;
+mod printf;
+
+pub use pieces::Pieces;
