@@ -1,3 +1,4 @@
 pub mod LayoutLemmas
 pub mod ValueLemmas
 pub mod PrintfLemmas
+pub mod FormatxLemmas

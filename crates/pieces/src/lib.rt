@@ -1,8 +1,9 @@
 //! Rows printed by templates in a fast way: a template is cut into pieces once, and a row's tokens are put between them.
 #![tactic(auto)]
 
+mod formatx_layout;
 mod layout;
 mod pieces;
-mod printf;
+mod printf_layout;
 
 pub use pieces::Pieces;

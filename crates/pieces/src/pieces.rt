@@ -5,7 +5,7 @@ ghost use Rattle.tokens.specs.Tokens.{AreTokens, data_of};
 ghost use Rattle.pieces.specs.Inner.Sound.{StandsFor};
 
 use crate::layout::Layout;
-use crate::printf;
+use crate::{formatx_layout, printf_layout};
 use numerals::NoMemory;
 use printer::Dialect;
 use std::alloc::Global;
@@ -44,9 +44,9 @@ fn lay_out(
     ensures { IfOk result (λ found. IfSome found (StandsFor dialect template.now kinds.now)) }
 {
     match dialect {
-        Dialect::Printf => printf::lay_out(alloc, template, kinds),
+        Dialect::Printf => printf_layout::lay_out(alloc, template, kinds),
         Dialect::Strfmt => Ok(None),
-        Dialect::Formatx => Ok(None),
+        Dialect::Formatx => formatx_layout::lay_out(alloc, template, kinds),
     }
 }
 

@@ -2,7 +2,7 @@ use Rattle.std.proofs.Common.{◌≡◌, ◌<◌, List, [], ◌∷◌, length, r
 use Rattle.sprintf.specs.declared.parser.FormatElement.{FormatElement}
 use Rattle.pieces.specs.Inner.Printf.{printed_behind}
 use Rattle.pieces.proofs.PrintfLemmas.{finish}
-use Rattle.pieces.proofs.printf.lay_out_elements.Goals as goal
+use Rattle.pieces.proofs.printf_layout.lay_out_elements.Goals as goal
 
 no_element : {A : Type 0} (xs : List A) → length xs < 1 → xs ≡ []
 no_element [] h = refl

@@ -1,7 +1,7 @@
 use Rattle.std.proofs.Common.{rules}
 use Rattle.pieces.specs.Inner.Printf.{IsPlain}
 use Rattle.pieces.proofs.PrintfLemmas.{value_moves}
-use Rattle.pieces.proofs.printf.push_value.Goals as goal
+use Rattle.pieces.proofs.printf_layout.push_value.Goals as goal
 
 pub returns : goal.returns
 returns c = λ rest.

@@ -2,7 +2,7 @@ use Rattle.std.proofs.Common.{◌∷◌, sym, subst}
 use Rattle.sprintf.specs.declared.parser.FormatElement.{FormatElement}
 use Rattle.pieces.specs.Inner.Printf.{Moves}
 use Rattle.pieces.proofs.PrintfLemmas.{percent_moves}
-use Rattle.pieces.proofs.printf.push_element.Goals as goal
+use Rattle.pieces.proofs.printf_layout.push_element.Goals as goal
 
 pub returns-in-PercentSign : goal.returns-in-PercentSign
 returns-in-PercentSign c = λ rest.
