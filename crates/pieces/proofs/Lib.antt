@@ -2,3 +2,4 @@ pub mod LayoutLemmas
 pub mod ValueLemmas
 pub mod PrintfLemmas
 pub mod FormatxLemmas
+pub mod StrfmtLemmas

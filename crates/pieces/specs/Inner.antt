@@ -3,3 +3,4 @@ pub mod Formatx
 pub mod Layout
 pub mod Printf
 pub mod Sound
+pub mod Strfmt

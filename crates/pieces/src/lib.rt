@@ -5,5 +5,6 @@ mod formatx_layout;
 mod layout;
 mod pieces;
 mod printf_layout;
+mod strfmt_layout;
 
 pub use pieces::Pieces;

@@ -5,7 +5,7 @@ ghost use Rattle.tokens.specs.Tokens.{AreTokens, data_of};
 ghost use Rattle.pieces.specs.Inner.Sound.{StandsFor};
 
 use crate::layout::Layout;
-use crate::{formatx_layout, printf_layout};
+use crate::{formatx_layout, printf_layout, strfmt_layout};
 use numerals::NoMemory;
 use printer::Dialect;
 use std::alloc::Global;
@@ -45,7 +45,7 @@ fn lay_out(
 {
     match dialect {
         Dialect::Printf => printf_layout::lay_out(alloc, template, kinds),
-        Dialect::Strfmt => Ok(None),
+        Dialect::Strfmt => strfmt_layout::lay_out(alloc, template, kinds),
         Dialect::Formatx => formatx_layout::lay_out(alloc, template, kinds),
     }
 }
