@@ -1,0 +1,5 @@
+pub mod LayoutLemmas
+pub mod ValueLemmas
+pub mod PrintfLemmas
+pub mod FormatxLemmas
+pub mod StrfmtLemmas

@@ -1,0 +1,6 @@
+-- What only private calls and proofs cite.
+pub mod Formatx
+pub mod Layout
+pub mod Printf
+pub mod Sound
+pub mod Strfmt

@@ -1,0 +1,141 @@
+// Printf formats as layouts.
+ghost use Rattle.std.specs.Prelude.{◌∷◌, List, IfOk, IfSome, IsTrue};
+ghost use Rattle.sprintf.specs.declared.parser.FormatElement.{FormatElement as ElementOf};
+ghost use Rattle.sprintf.specs.declared.parser.FormatElement.TheVariants.{Format};
+ghost use Rattle.printer.specs.declared.dialect.Dialect.TheVariants as Of;
+ghost use Rattle.pieces.specs.Inner.Printf.{IsPlain, IsPlainNumber, IsPlainWord, IsWhole, Moves};
+ghost use Rattle.pieces.specs.Inner.Sound.{StandsFor};
+
+use crate::layout::{Form, Layout, form_at};
+use numerals::NoMemory;
+use sprintf::parser::{FormatElement, parse_format_string};
+use sprintf::{ConversionSpecifier, ConversionType, NumericParam, PrintfError};
+use std::alloc::Global;
+use values::Kind;
+
+/// Whether the field is a number's without width and flags. A precision that is a number has no effect on it.
+fn is_plain_number(field: &ConversionSpecifier) -> bool
+    ensures { IsTrue result → IsPlainNumber field.now }
+{
+    let ConversionType::DecInt = field.conversion_type else {
+        return false;
+    };
+    let NumericParam::Literal(0) = field.width else {
+        return false;
+    };
+    let NumericParam::Literal(_) = field.precision else {
+        return false;
+    };
+    !field.force_sign && !field.space_sign
+}
+
+/// Whether the field is a word's without width and precision.
+fn is_plain_word(field: &ConversionSpecifier) -> bool
+    ensures { IsTrue result → IsPlainWord field.now }
+{
+    let ConversionType::String = field.conversion_type else {
+        return false;
+    };
+    let NumericParam::Literal(0) = field.width else {
+        return false;
+    };
+    let NumericParam::Literal(2147483647) = field.precision else {
+        return false;
+    };
+    true
+}
+
+fn is_plain(field: &ConversionSpecifier, form: Form) -> bool
+    ensures { IsTrue result → IsPlain form field.now }
+{
+    match form {
+        Form::Number => is_plain_number(field),
+        Form::Signed => is_plain_number(field),
+        Form::Word => is_plain_word(field),
+    }
+}
+
+/// Takes a field's value in, and gives the place of the next one; None where the field isn't plain.
+fn push_value(
+    alloc: Global,
+    layout: &mut Layout,
+    field: &ConversionSpecifier,
+    kinds: &[Kind],
+    place: usize,
+) -> Result<Option<usize>, NoMemory>
+    ensures { IfOk result (λ found. IfSome found (λ next. (rest : List ElementOf) → Moves kinds.now layout.old (Format field.now ∷ rest) place layout.new rest next)) }
+{
+    let Some(form) = form_at(kinds, place) else {
+        return Ok(None);
+    };
+    if !is_plain(field, form) {
+        return Ok(None);
+    }
+    layout.push_value(alloc, form, place)?;
+    Ok(Some(place + 1))
+}
+
+/// Takes an element in, and gives the place of the next value; None where it is a field that isn't plain.
+fn push_element(
+    alloc: Global,
+    layout: &mut Layout,
+    element: &FormatElement<'_>,
+    kinds: &[Kind],
+    place: usize,
+) -> Result<Option<usize>, NoMemory>
+    ensures { IfOk result (λ found. IfSome found (λ next. (rest : List ElementOf) → Moves kinds.now layout.old (element.now ∷ rest) place layout.new rest next)) }
+{
+    match element {
+        FormatElement::Verbatim(text) => {
+            layout.push_text(text)?;
+            Ok(Some(place))
+        }
+        FormatElement::Format(field) => {
+            if let ConversionType::PercentSign = field.conversion_type {
+                layout.push_text("%")?;
+                return Ok(Some(place));
+            }
+            push_value(alloc, layout, field, kinds, place)
+        }
+    }
+}
+
+/// The layout of elements, where each field is plain and has its value.
+fn lay_out_elements(
+    alloc: Global,
+    elements: &[FormatElement<'_>],
+    kinds: &[Kind],
+) -> Result<Option<Layout>, NoMemory>
+    ensures { IfOk result (λ found. IfSome found (IsWhole kinds.now elements.now)) }
+{
+    let mut layout = Layout::new(alloc);
+    let mut place = 0;
+    let mut rest = elements;
+    'elements: while let [element, after @ ..] = rest {
+        let Some(next) = push_element(alloc, &mut layout, element, kinds, place)? else {
+            return Ok(None);
+        };
+        place = next;
+        rest = after;
+    }
+    if place == kinds.len() {
+        Ok(Some(layout))
+    } else {
+        Ok(None)
+    }
+}
+
+/// The layout of a printf format, where each field is plain and has its value.
+pub(crate) fn lay_out(
+    alloc: Global,
+    template: &str,
+    kinds: &[Kind],
+) -> Result<Option<Layout>, NoMemory>
+    ensures { IfOk result (λ found. IfSome found (StandsFor Of.Printf template.now kinds.now)) }
+{
+    match parse_format_string(alloc, template) {
+        Ok(elements) => lay_out_elements(alloc, &elements, kinds),
+        Err(PrintfError::NoMemory) => Err(NoMemory),
+        Err(_) => Ok(None),
+    }
+}
