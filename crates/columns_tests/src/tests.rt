@@ -1,0 +1,71 @@
+// Each expected text is written out by hand.
+use columns::{Columns, Token};
+use row_format::RowFormat;
+use sprintf::parser::parse_format_string;
+use std::alloc::Global;
+use std::test::Fail;
+use values::parse_kinds;
+
+// Kinds, a format, a row, and each token's text and number; `no` where the row isn't taken, `none` where the format isn't served.
+const ROWS: &str = "\
+    u64 u64\t%d-%u\t1-2\t1=1 2=2\n\
+    u64 u64\t%d-%u\t1-02\tno\n\
+    u64 u64\t%d-%u\t1-\tno\n\
+    u64 u64\t%d-%u\t1-2x\tno\n\
+    u64\t%d\t18446744073709551615\t18446744073709551615=18446744073709551615\n\
+    u64\t%d\t18446744073709551616\tno\n\
+    u8\t[%d]\t[255]\t255=255\n\
+    u8\t[%d]\t[256]\tno\n\
+    u32\t%08u.\t00000412.\t00000412=412\n\
+    u32\t%08u.\t412.\tno\n\
+    word u8\t%s [%d]\tweb [7]\tweb=0 7=7\n\
+    word u8\t%s [%d]\t [7]\tno\n\
+    word\t%s\té\té=0\n\
+    char\t%c\ta\tnone\n\
+    u8\t%-4d\t7   \tnone\n\
+";
+
+/// What the tokens of a row are.
+fn shown(alloc: Global, row: &str, tokens: &[Token]) -> Result<String, Fail> {
+    let mut text = String::new(alloc);
+    for token in tokens {
+        if !text.is_empty() {
+            text.push(' ')?;
+        }
+        let slice = row.get(token.start..token.end).ok_or("no slice")?;
+        write!(text, "{slice}={}", token.number)?;
+    }
+    Ok(text)
+}
+
+/// What is read of a row.
+fn read(alloc: Global, kinds: &str, format: &str, row: &str) -> Result<String, Fail> {
+    let kinds = parse_kinds(alloc, kinds).ok().ok_or("kinds")?;
+    let elements = parse_format_string(alloc, format).ok().ok_or("format")?;
+    let format = RowFormat::new(alloc, &elements).ok().ok_or("no memory")?;
+    let found = Columns::new(alloc, &format, &kinds);
+    let Some(columns) = found.ok().ok_or("no memory")? else {
+        return Ok(String::from_str(alloc, "none")?);
+    };
+    let mut tokens = Vec::new(alloc);
+    if columns.read(row, &mut tokens).ok().ok_or("no memory")? {
+        shown(alloc, row, &tokens)
+    } else {
+        Ok(String::from_str(alloc, "no")?)
+    }
+}
+
+#[test]
+fn rows_are_read(rt: HostRuntime) -> Result<(), Fail> {
+    for line in ROWS.lines() {
+        let (kinds, rest) = line.split_once('\t').ok_or("no kinds")?;
+        let (format, rest) = rest.split_once('\t').ok_or("no format")?;
+        let (row, want) = rest.split_once('\t').ok_or("no row")?;
+        assert_eq!(rt;
+            read(rt.alloc(), kinds, format, row)?.as_str(),
+            want,
+            "{line}"
+        );
+    }
+    Ok(())
+}
