@@ -1,9 +1,10 @@
 // What a field's text may be, and how it is taken.
 ghost use Rattle.std.specs.Prelude.{◌≡◌, IfSome, IsUtf8, Some, true, false};
 ghost use Rattle.sprintf.specs.Field.{number_of};
-ghost use Rattle.columns.specs.Inner.Serves.{Serves, IsGreatest, IsStop};
+ghost use Rattle.columns.specs.Inner.Serves.{Serves, IsGreatest, IsGreatestSigned, IsStop};
 ghost use Rattle.columns.specs.Inner.Shapes.{IsTaken};
 
+use crate::integer::take_integer;
 use crate::number::{take_filled, take_natural};
 use crate::word::{LONGEST, take_word};
 use numerals::numeral_of_value;
@@ -18,6 +19,8 @@ pub(crate) enum Take {
     Natural { greatest: u64 },
     /// Such a number, filled with zeros to the width.
     Filled { greatest: u64, width: usize },
+    /// A number of at most this, or a negative one of at least its complement, with `+` in front where that is printed.
+    Integer { greatest: u64, plus: bool },
     /// A word without this byte, which is ASCII: the stop character, else a line feed.
     Word { stop: u8 },
 }
@@ -31,6 +34,19 @@ fn greatest_of(kind: Kind) -> Option<u64>
         Kind::U16 => Some(65_535),
         Kind::U32 => Some(4_294_967_295),
         Kind::U64 | Kind::Usize => Some(u64::MAX),
+        _ => None,
+    }
+}
+
+// The greatest number of a kind with signs.
+fn greatest_signed(kind: Kind) -> Option<u64>
+    ensures { IfSome result (IsGreatestSigned kind) }
+{
+    match kind {
+        Kind::I8 => Some(127),
+        Kind::I16 => Some(32_767),
+        Kind::I32 => Some(2_147_483_647),
+        Kind::I64 | Kind::Isize => Some(9_223_372_036_854_775_807),
         _ => None,
     }
 }
@@ -65,6 +81,33 @@ fn filled_take(field: &RowField, kind: Kind) -> Option<Take>
         greatest: greatest_of(kind)?,
         width: number_in(field.field().width)?,
     })
+}
+
+// How the fields of a decimal conversion are taken over kinds with signs.
+fn signed_take(field: &RowField, kind: Kind) -> Option<Take>
+    requires { field.now.field.conversion_type ≡ ConversionType.DecInt }
+    ensures { IfSome result (λ take. Serves field.now.field kind field.now.after take) }
+{
+    numeral_of_value();
+    let spec = *field.field();
+    if number_in(spec.width)? != 0 {
+        return None;
+    }
+    if spec.space_sign {
+        return None;
+    }
+    Some(Take::Integer {
+        greatest: greatest_signed(kind)?,
+        plus: spec.force_sign,
+    })
+}
+
+// Whether numbers of the kind have signs.
+fn is_signed(kind: Kind) -> bool {
+    match kind {
+        Kind::I8 | Kind::I16 | Kind::I32 | Kind::I64 | Kind::Isize => true,
+        _ => false,
+    }
 }
 
 // How the fields of a decimal conversion are taken.
@@ -117,7 +160,13 @@ impl Take {
         ensures { IfSome result (λ take. Serves field.now.field kind field.now.after take) }
     {
         match field.field().conversion_type {
-            ConversionType::DecInt => decimal_take(field, kind),
+            ConversionType::DecInt => {
+                if is_signed(kind) {
+                    signed_take(field, kind)
+                } else {
+                    decimal_take(field, kind)
+                }
+            }
             ConversionType::String => word_take(field, kind),
             _ => None,
         }
@@ -132,6 +181,7 @@ impl Take {
         match self {
             Take::Natural { greatest } => take_natural(text, greatest),
             Take::Filled { greatest, width } => take_filled(text, greatest, width),
+            Take::Integer { greatest, plus } => take_integer(text, greatest, plus),
             Take::Word { stop } => take_word(text, stop),
         }
     }

@@ -4,7 +4,7 @@ use Rattle.std.specs.Str.{chars}
 use Rattle.scan_fmt.specs.Directives.{first, is_blank}
 use Rattle.sprintf.specs.declared.parser.ConversionSpecifier.{ConversionSpecifier}
 use Rattle.values.specs.declared.kind.Kind.{Kind}
-use Rattle.values.specs.declared.kind.Kind.TheVariants.{U8, U16, U32, U64, Usize}
+use Rattle.values.specs.declared.kind.Kind.TheVariants.{U8, U16, U32, U64, Usize, I8, I16, I32, I64, Isize}
 use Rattle.row_format.specs.Columns.{field_text}
 use Rattle.row_format.specs.Fit.{IsFit}
 use Rattle.columns.specs.Inner.Shapes.{Shape}
@@ -30,6 +30,15 @@ IsGreatest U32 n = n ≡ 4294967295
 IsGreatest U64 n = n ≡ 18446744073709551615
 IsGreatest Usize n = n ≡ 18446744073709551615
 IsGreatest _ n = ⊥
+
+-- The number is the greatest of a kind with signs.
+abbrev pub IsGreatestSigned : Kind → ℕ → Type 0
+IsGreatestSigned I8 n = n ≡ 127
+IsGreatestSigned I16 n = n ≡ 32767
+IsGreatestSigned I32 n = n ≡ 2147483647
+IsGreatestSigned I64 n = n ≡ 9223372036854775807
+IsGreatestSigned Isize n = n ≡ 9223372036854775807
+IsGreatestSigned _ n = ⊥
 
 -- In front of the literal text no character but white space and this one ends a word.
 pub record IsStop (after : List ℕ) (stop : ℕ) : Type 0 where
