@@ -21,6 +21,11 @@ const ROWS: &str = "\
     word u8\t%s [%d]\tweb [7]\tweb=0 7=7\n\
     word u8\t%s [%d]\t [7]\tno\n\
     word\t%s\té\té=0\n\
+    i32\t%d\t-5\t-5=18446744073709551611\n\
+    i32\t%d\t-0\tno\n\
+    i32\t%+d\t+7\t+7=7\n\
+    i64\t%d\t-9223372036854775808\t-9223372036854775808=9223372036854775808\n\
+    i64\t%d\t9223372036854775808\tno\n\
     char\t%c\ta\tnone\n\
     u8\t%-4d\t7   \tnone\n\
 ";
