@@ -1,8 +1,6 @@
-//! Tests of `pieces`, as a stranger uses it: `tables` prints templates that stand in tables, `calls` makes each public call once.
+//! Tests of `pieces`, as a stranger uses it: rows that `columns` read are printed by templates that stand in tables.
 #![tactic(auto)]
 
-#[cfg(test)]
-mod calls;
 #[cfg(test)]
 mod rows;
 #[cfg(test)]
