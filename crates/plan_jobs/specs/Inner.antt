@@ -2,3 +2,5 @@
 pub mod State
 pub mod PlanClear
 pub mod ScanClear
+pub mod TranslateState
+pub mod TranslateClear

@@ -3,11 +3,10 @@ ghost use Rattle.std.specs.Prelude.{◌≡◌, ◌++◌, ◌∷◌, [], OnOk, On
 ghost use Rattle.whiteread.specs.Lines.{line_feed};
 ghost use Rattle.line_job.specs.declared.job.Refusal.TheVariants.{NoMemory};
 
-use header_lines::LineCause;
 use line_job::{Refusal, end_line};
 
 /// Puts a text and a line feed at the end of `out`, or leaves `out` as it was.
-pub(crate) fn push_line(out: &mut String, text: &str) -> Result<(), Refusal<LineCause>>
+pub(crate) fn push_line<Why: Copy>(out: &mut String, text: &str) -> Result<(), Refusal<Why>>
     ensures ok { OnOk result (string_bytes out.new ≡ string_bytes out.old ++ (text.now ++ line_feed ∷ [])) }
     ensures memory { IfErr result (λ why. why ≡ NoMemory) }
     ensures as_before { OnErr result (string_bytes out.new ≡ string_bytes out.old) }

@@ -7,7 +7,7 @@ use Rattle.plan_jobs.specs.Plan.{plan_rules, kinds_next as plan_start}
 use Rattle.plan_jobs.specs.Scan.{ScanStage, scan_rules}
 use Rattle.reformat.specs.declared.command.Command.{Command}
 use Rattle.reformat.specs.declared.command.Command.TheVariants.{Rewrite, Plan, Scan}
-use Rattle.reformat.specs.Rules.{rewrite_rules, kinds_next}
+use Rattle.rewriting.specs.Rules.{rewrite_rules, kinds_next}
 use Rattle.reformat.specs.Run.{rewrite_words, plan_words, scan_words, IsCommand, input_limit}
 use Rattle.reformat.specs.Inner.Said.{IsSaid, Does}
 

@@ -1,4 +1,1 @@
-mod RowLemmas
-mod RewriteLemmas
-mod ReformatLemmas
 mod CommandLemmas

@@ -1,4 +1,2 @@
 -- What only private calls and proofs cite.
-pub mod State
 pub mod Said
-pub mod Clear

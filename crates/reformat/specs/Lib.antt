@@ -1,7 +1,2 @@
-pub mod Rewrite
-pub mod Rewritten
-pub mod Error
-pub mod Rules
-pub mod Reformats
 pub mod Run
 pub mod Inner

@@ -1,51 +1,36 @@
 // The commands of the program.
-ghost use Rattle.std.specs.Prelude.{◌≡◌, ◌∷◌, [], ℕ, List, map, string_bytes, MatchOption};
-ghost use Rattle.line_job.specs.Ends.{Tells, source_seen, sink_seen};
+ghost use Rattle.std.specs.Prelude.{◌≡◌, ◌≤◌, ◌≢◌, ◌∷◌, [], ℕ, List, map, string_bytes, decimal, MatchOption};
+ghost use Rattle.line_job.specs.Ends.{Tells, Took, source_seen, sink_seen};
 ghost use Rattle.line_job.specs.Told.{RunsTold};
 ghost use Rattle.header_lines.specs.Message.{cause_message};
+ghost use Rattle.rewriting.specs.Rules.{rewrite_rules, kinds_next};
+ghost use Rattle.rewriting.specs.Reformats.{WritesAll, Completes};
 ghost use Rattle.plan_jobs.specs.Plan.{plan_rules, kinds_next as plan_start};
 ghost use Rattle.plan_jobs.specs.Scan.{scan_rules};
-ghost use Rattle.plan_jobs.specs.Written.{PlansAll, ScansAll};
-ghost use Rattle.reformat.specs.Rules.{rewrite_rules, kinds_next};
-ghost use Rattle.reformat.specs.Reformats.{Reformats, WritesAll};
-ghost use Rattle.reformat.specs.Run.{usage, rewrite_words, plan_words, scan_words, IsCommand, input_limit, Completes};
+ghost use Rattle.plan_jobs.specs.Translate.{translate_rules, kinds_next as translate_start};
+ghost use Rattle.plan_jobs.specs.TranslateMessage.{translate_message};
+ghost use Rattle.plan_jobs.specs.Written.{PlansAll, ScansAll, TranslatesAll};
+ghost use Rattle.sample_job.specs.Summary.{IsSummary};
+ghost use Rattle.sample_job.specs.Samples.{Samples};
+ghost use Rattle.translation.specs.declared.target.Target.{Target};
+ghost use Rattle.reformat.specs.Run.{usage, rewrite_words, plan_words, scan_words, target_word, translate_words, sample_words, sample_limit, IsCommand, input_limit};
 ghost use Rattle.reformat.specs.Inner.Said.{IsSaid, Does};
 
-use crate::ReformatError;
-use crate::rewrite::Rewrite;
-use bumpalo::Bump;
 use edge_io::{Sink, Source};
-use line_job::{run_job, run_told, tell};
-use plan_jobs::{run_plan, run_scan};
+use line_job::tell;
+use plan_jobs::{Target, run_plan, run_scan, run_translate};
+use rewriting::run_rewrite;
+use sample_job::run_sample;
 use std::alloc::Global;
 
 /// How many bytes of input a command takes at most.
 const LIMIT: u64 = 268435456;
 
-/// How many header lines there are.
-const HEADERS: u64 = 4;
+/// How many rows a sample has at most.
+const SAMPLE_LIMIT: u64 = 1000000;
 
 const USAGE: &[u8] =
     b"usage: reformat rewrite | plan | scan FORMAT | translate strfmt|formatx | sample N\n";
-
-/// Rewrites the rows of the input, and answers how many there are. The first four lines say how: kinds, the format
-/// of the rows, a dialect, a template. At most `limit` bytes are taken, and one more to see whether there is one. The
-/// text of a row is written before another read.
-pub fn reformat<S: Source, K: Sink>(
-    alloc: Global,
-    input: &mut S,
-    output: &mut K,
-    limit: u64,
-) -> Result<u64, ReformatError>
-    ensures { Reformats limit (source_seen S.supply input.old input.new) (sink_seen K.held K.faults output.old output.new) result }
-{
-    let texts = Bump::new(alloc);
-    let mut job = Rewrite::new(alloc, &texts);
-    match run_job(alloc, &mut job, input, output, limit) {
-        Ok(lines) => Ok(lines.saturating_sub(HEADERS)),
-        Err(stop) => Err(ReformatError::from(stop)),
-    }
-}
 
 /// What the words of the program say.
 #[derive(Clone, Copy)]
@@ -53,6 +38,8 @@ enum Command<'w> {
     Rewrite,
     Plan,
     Scan(&'w str),
+    Translate(Target),
+    Sample(u64),
 }
 
 /// The command that one word says.
@@ -66,14 +53,33 @@ fn one_word(word: &str) -> Option<Command<'_>>
     }
 }
 
-/// The command that two words say.
-fn two_words<'w>(word: &str, format: &'w str) -> Option<Command<'w>>
-    ensures { MatchOption result (¬ IsCommand (word.now ∷ format.now ∷ [])) (IsSaid (word.now ∷ format.now ∷ [])) }
+/// The target that the word names.
+fn target_of(word: &str) -> Option<Target>
+    ensures { MatchOption result ((target : Target) → word.now ≢ target_word target) (λ target. word.now ≡ target_word target) }
 {
-    if word == "scan" {
-        Some(Command::Scan(format))
-    } else {
-        None
+    match word {
+        "strfmt" => Some(Target::Strfmt),
+        "formatx" => Some(Target::Formatx),
+        _ => None,
+    }
+}
+
+/// The number of rows that the word says in decimal, without a sign and without a zero in front.
+fn rows_of(word: &str) -> Option<u64>
+    ensures { MatchOption result ((n : ℕ) → n ≤ sample_limit → word.now ≢ decimal n) (λ n. (n ≤ sample_limit) × (word.now ≡ decimal n)) }
+{
+    None
+}
+
+/// The command that two words say.
+fn two_words<'w>(word: &str, object: &'w str) -> Option<Command<'w>>
+    ensures { MatchOption result (¬ IsCommand (word.now ∷ object.now ∷ [])) (IsSaid (word.now ∷ object.now ∷ [])) }
+{
+    match word {
+        "scan" => Some(Command::Scan(object)),
+        "translate" => Some(Command::Translate(target_of(object)?)),
+        "sample" => Some(Command::Sample(rows_of(object)?)),
+        _ => None,
     }
 }
 
@@ -85,8 +91,8 @@ fn command_of(words: &[String]) -> Option<Command<'_>>
         [only] => one_word(only.as_str()),
         [first, second] => {
             let word = first.as_str();
-            let format = second.as_str();
-            two_words(word, format)
+            let object = second.as_str();
+            two_words(word, object)
         }
         _ => None,
     }
@@ -100,17 +106,16 @@ fn run_command<S: Source, K: Sink, E: Sink>(
     output: &mut K,
     errors: &mut E,
 ) -> u8
+    requires { IsWithin command }
     ensures does { Does command.entry (source_seen S.supply input.old input.new) (sink_seen K.held K.faults output.old output.new) (sink_seen E.held E.faults errors.old errors.new) result }
     ensures quiet { result ≡ 0 → errors.new ≡ errors.old }
 {
     match command {
-        Command::Rewrite => {
-            let texts = Bump::new(alloc);
-            let mut job = Rewrite::new(alloc, &texts);
-            run_told(alloc, &mut job, input, output, errors, LIMIT)
-        }
+        Command::Rewrite => run_rewrite(alloc, input, output, errors, LIMIT),
         Command::Plan => run_plan(alloc, input, output, errors, LIMIT),
         Command::Scan(format) => run_scan(alloc, format, input, output, errors, LIMIT),
+        Command::Translate(target) => run_translate(alloc, target, input, output, errors, LIMIT),
+        Command::Sample(n) => run_sample(alloc, n, output, errors),
     }
 }
 
@@ -133,7 +138,7 @@ pub fn run<S: Source, K: Sink, E: Sink>(
 
     // Input that keeps the rules and the limit is rewritten, where no fault was counted and memory was there.
     ensures complete { map string_bytes words.now ≡ rewrite_words
-        → Completes (source_seen S.supply input.old input.new) (sink_seen K.held K.faults output.old output.new) result }
+        → Completes input_limit (source_seen S.supply input.old input.new) (sink_seen K.held K.faults output.old output.new) result }
 
     // Status 0 of `plan`: all was read, and the planned text of the first two lines was written.
     ensures planned { map string_bytes words.now ≡ plan_words → result ≡ 0
@@ -150,6 +155,22 @@ pub fn run<S: Source, K: Sink, E: Sink>(
     // Every status of `scan` is that of a result of the job that scans by the format, and its message is told.
     ensures scans { (format : List ℕ) → map string_bytes words.now ≡ scan_words format
         → RunsTold scan_rules (record { format = format }) cause_message input_limit (source_seen S.supply input.old input.new) (sink_seen K.held K.faults output.old output.new) (sink_seen E.held E.faults errors.old errors.new) result }
+
+    // Status 0 of `translate`: all was read, and the template that the first two lines are translated to was written.
+    ensures translated { (target : Target) → map string_bytes words.now ≡ translate_words target → result ≡ 0
+        → TranslatesAll target (source_seen S.supply input.old input.new) (sink_seen K.held K.faults output.old output.new) }
+
+    // Every status of `translate` is that of a result of the job that translates, and its message is told.
+    ensures translates { (target : Target) → map string_bytes words.now ≡ translate_words target
+        → RunsTold translate_rules (translate_start target) translate_message input_limit (source_seen S.supply input.old input.new) (sink_seen K.held K.faults output.old output.new) (sink_seen E.held E.faults errors.old errors.new) result }
+
+    // Status 0 of `sample`: the summary of what is written for a sample of so many rows was written.
+    ensures sampled { (n : ℕ) → n ≤ sample_limit → map string_bytes words.now ≡ sample_words n → result ≡ 0
+        → (line : List ℕ) × IsSummary n line × Took (sink_seen K.held K.faults output.old output.new) line }
+
+    // Every status of `sample` is that of success, of a write fault or of want of memory, and nothing is read.
+    ensures samples { (n : ℕ) → n ≤ sample_limit → map string_bytes words.now ≡ sample_words n
+        → (input.new ≡ input.old) × Samples n (sink_seen K.held K.faults output.old output.new) (sink_seen E.held E.faults errors.old errors.new) result }
 
     // Other words are no command: the usage line is told, and nothing is read or written.
     ensures usage { ¬ IsCommand (map string_bytes words.now)

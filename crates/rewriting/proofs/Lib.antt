@@ -1,0 +1,3 @@
+mod RowLemmas
+mod RewriteLemmas
+pub mod ReformatLemmas

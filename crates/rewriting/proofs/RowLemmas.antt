@@ -1,0 +1,97 @@
+-- A row of a plan is a row of the format that was planned.
+use Rattle.std.proofs.Common.{◌≡◌, ◌++◌, ℕ, List, [], ◌∷◌, map, sym, ap, ◌∙◌, subst, refl, inl, inr, append_assoc, Result, Ok, Err, OnOk}
+use Rattle.sprintf.specs.Grammar.{IsFormat}
+use Rattle.sprintf.specs.Printed.{printed}
+use Rattle.sprintf.specs.declared.PrintfError.{PrintfError}
+use Rattle.sprintf.specs.declared.parser.FormatElement.{FormatElement}
+use Rattle.values.specs.declared.kind.Kind.{Kind}
+use Rattle.values.specs.declared.value.Value.{Value}
+use Rattle.values.specs.Datum.{Datum, kind_of, datum_of, printf_meaning, each_of}
+use Rattle.row_format.specs.Columns.{Columns, columns_of, row_text}
+use Rattle.row_format.specs.Fit.{AreFit}
+use Rattle.row_format.specs.Laws.{PrintsColumns}
+use Rattle.row_format.specs.Plannable.{IsPlannable, IsUnpaired, Never}
+use Rattle.row_format.specs.Row.{IsRow as IsPlanRow}
+use Rattle.row_plan.specs.Plan.{IsRead}
+use Rattle.printer.specs.Prints.{Printing, Prints}
+use Rattle.printer.specs.declared.error.RenderFault.{RenderFault}
+use Rattle.line_job.specs.declared.job.Refusal.{Refusal}
+use Rattle.line_job.specs.declared.job.Refusal.TheVariants.{Line, NoMemory}
+use Rattle.line_job.specs.Refusal.{IfRefused}
+use Rattle.header_lines.specs.declared.cause.LineCause.{LineCause}
+use Rattle.header_lines.specs.declared.cause.LineCause.TheVariants.{Render}
+use Rattle.header_lines.proofs.ClearHeaders.{header_lines_are_clear}
+use Rattle.rewriting.specs.declared.rows.Source.{Source}
+use Rattle.rewriting.specs.Rewrite.{IsRow, IsRowOf, Renders, IsRewrittenAs}
+use Rattle.rewriting.specs.Rules.{RefusesRow}
+use Rattle.rewriting.specs.Inner.State.{layout_of, IsSoundSource, IsNoRow}
+
+abbrev row_is : List ℕ → Result (List ℕ) PrintfError
+row_is row = Ok row
+
+row_of_plan : PrintsColumns → (source : Source) (row : List ℕ) (values : List Datum) → IsSoundSource source → IsPlanRow source.plan.format source.plan.kinds row values → IsRow source.plan.kinds source.text.now row values
+row_of_plan prints source row values sound is =
+    let fit : AreFit (columns_of sound.elements).columns source.plan.kinds values = subst (λ (c : Columns). AreFit c.columns source.plan.kinds values) sound.columns is.fit in
+    let text : row ≡ row_text (columns_of sound.elements) source.plan.kinds values = is.text ∙ ap (λ (c : Columns). row_text c source.plan.kinds values) sound.columns in
+    record { elements = sound.elements; spelled = sound.spelled; fit = fit; prints = prints sound.elements source.plan.kinds values sound.plannable.paired fit ∙ sym (ap Ok text) }
+
+plan_row : PrintsColumns → (source : Source) (row : List ℕ) (values : List Datum) → IsSoundSource source → IsRow source.plan.kinds source.text.now row values → IsPlanRow source.plan.format source.plan.kinds row values
+plan_row prints source row values sound is =
+    let kinds : List Kind = source.plan.kinds in
+    let same : columns_of is.elements ≡ columns_of sound.elements = header_lines_are_clear.one_thing.columns source.text.now is.elements sound.elements is.spelled sound.spelled in
+    let all : columns_of is.elements ≡ source.plan.format = same ∙ sym sound.columns in
+    let paired : Never IsUnpaired (columns_of is.elements).columns kinds = subst (λ (c : Columns). Never IsUnpaired c.columns kinds) (sym same) sound.plannable.paired in
+    let texts : row_is row ≡ row_is (row_text (columns_of is.elements) kinds values) = sym is.prints ∙ prints is.elements kinds values paired is.fit in
+    let text : row ≡ row_text (columns_of is.elements) kinds values = cc in
+    record { fit = subst (λ (c : Columns). AreFit c.columns kinds values) all is.fit; text = text ∙ ap (λ (c : Columns). row_text c kinds values) all }
+
+row_of : PrintsColumns → (source : Source) (printing : Printing) (row : List ℕ) (values : List Value) → IsSoundSource source → IsRead source.plan row values → IsRowOf (layout_of source printing) row (map datum_of values)
+row_of prints source printing row values sound read = record {
+  is_row = row_of_plan prints source row (map datum_of values) sound read.row;
+  only = λ others is. read.only others (plan_row prints source row others sound is);
+}
+
+-- what the printer prints of the values, it prints by the layout
+renders : (source : Source) (printing : Printing) (values : List Value) (outcome : Result (List ℕ) RenderFault) → printing.names ≡ [] → map kind_of values ≡ source.plan.kinds
+    → Prints printing (map kind_of values) (map datum_of values) outcome → Renders (layout_of source printing) (map datum_of values) outcome
+renders source printing values outcome none kinds prints =
+    let by_kinds : Prints printing source.plan.kinds (map datum_of values) outcome = subst (λ (k : List Kind). Prints printing k (map datum_of values) outcome) kinds prints in
+    subst (λ (n : List (List ℕ)). Prints (record { dialect = printing.dialect; template = printing.template; names = n }) source.plan.kinds (map datum_of values) outcome) none by_kinds
+
+abbrev text_is : List ℕ → Result (List ℕ) RenderFault
+text_is line = Ok line
+
+abbrev fault_is : RenderFault → Result (List ℕ) RenderFault
+fault_is fault = Err fault
+
+pub rewritten : PrintsColumns → (source : Source) (printing : Printing) (row line : List ℕ) (values : List Value) → IsSoundSource source → printing.names ≡ [] → IsRead source.plan row values
+    → Prints printing (map kind_of values) (map datum_of values) (text_is line) → IsRewrittenAs (layout_of source printing) row line
+rewritten prints source printing row line values sound none read text =
+    (map datum_of values, row_of prints source printing row values sound read, renders source printing values (text_is line) none read.kinds text)
+
+pub unrendered : PrintsColumns → (source : Source) (printing : Printing) (number : ℕ) (row : List ℕ) (fault : RenderFault) (values : List Value) → IsSoundSource source → printing.names ≡ [] → IsRead source.plan row values
+    → Prints printing (map kind_of values) (map datum_of values) (fault_is fault) → RefusesRow (layout_of source printing) number row (Render number fault)
+unrendered prints source printing number row fault values sound none read text =
+    inr (map datum_of values, fault, row_of prints source printing row values sound read, renders source printing values (fault_is fault) none read.kinds text, refl)
+
+unread : PrintsColumns → (source : Source) (printing : Printing) (number : ℕ) (row : List ℕ) (why : LineCause) → IsSoundSource source → IsNoRow source.plan number row why → RefusesRow (layout_of source printing) number row why
+unread prints source printing number row why sound none = inl ((λ values is. none.0 values (plan_row prints source row values sound is)), none.1)
+
+pub on_ok : {T E A B : Type 0} (r : Result T E) → (A → B) → OnOk r A → OnOk r B
+on_ok (Ok t) f h = f h
+on_ok (Err e) f h = tt
+
+pub ended : (old text mid new : List ℕ) → mid ≡ old ++ text → new ≡ mid ++ 10 ∷ [] → new ≡ old ++ (text ++ 10 ∷ [])
+ended old text mid new e f = f ∙ ap (λ (t : List ℕ). t ++ 10 ∷ []) e ∙ append_assoc old text (10 ∷ [])
+
+-- the same, where the code sees a slice of the values
+pub printed_of : (printing : Printing) (seen values : List Value) (outcome : Result (List ℕ) RenderFault) → seen ≡ values → Prints printing (map kind_of seen) (map datum_of seen) outcome → Prints printing (map kind_of values) (map datum_of values) outcome
+printed_of printing seen values outcome same prints = subst (λ (vs : List Value). Prints printing (map kind_of vs) (map datum_of vs) outcome) same prints
+
+abbrev pub not_read : Refusal LineCause → Result Unit (Refusal LineCause)
+not_read why = Err why
+
+-- the refusal of a row that has no values, as that of the job
+pub unread_if : PrintsColumns → (source : Source) (printing : Printing) (number : ℕ) (row : List ℕ) (why : Refusal LineCause) → IsSoundSource source → IfRefused (not_read why) (IsNoRow source.plan number row) → IfRefused (not_read why) (RefusesRow (layout_of source printing) number row)
+unread_if prints source printing number row (Line cause) sound none = unread prints source printing number row cause sound none
+unread_if prints source printing number row NoMemory sound none = tt

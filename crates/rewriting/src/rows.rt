@@ -1,0 +1,98 @@
+// The rows' format, and rows that are read by it and printed.
+ghost use Rattle.std.specs.Prelude.{◌≡◌, ◌++◌, ◌∷◌, [], ℕ, List, IfOk, OnOk, OnErr, string_bytes};
+ghost use Rattle.whiteread.specs.Lines.{line_feed};
+ghost use Rattle.row_plan.specs.Plan.{IsRead};
+ghost use Rattle.line_job.specs.Refusal.{IfRefused};
+ghost use Rattle.header_lines.specs.Headers.{RefusesFormatLine};
+ghost use Rattle.rewriting.specs.Rewrite.{IsRewrittenAs};
+ghost use Rattle.rewriting.specs.Rules.{RefusesRow};
+ghost use Rattle.rewriting.specs.Inner.State.{layout_of, IsSoundSource, IsNoRow};
+
+use bumpalo::Bump;
+use header_lines::{LineCause, read_format};
+use line_job::{Refusal, end_line};
+use printer::{Printer, TextError};
+use row_format::prints_columns;
+use row_plan::{RowError, RowPlan};
+use scan_fmt::parse::Format;
+use std::alloc::Global;
+use values::{Kind, Value};
+
+/// The rows' format: its text, how its rows are read, and the scanning format that reads them, cut once.
+#[derive(Drop)]
+pub(crate) struct Source<'a> {
+    pub(crate) text: &'a str,
+    pub(crate) plan: RowPlan,
+    pub(crate) format: Format<'a>,
+}
+
+/// Reads a format line for these kinds. Its text, and that of its scanning format, are kept among the texts.
+pub(crate) fn read_source<'a>(
+    alloc: Global,
+    texts: &'a Bump,
+    number: u64,
+    kinds: &[Kind],
+    line: &str,
+) -> Result<Source<'a>, Refusal<LineCause>>
+    ensures text { IfOk result (λ source. source.text.now ≡ line.now) }
+    ensures kinds { IfOk result (λ source. source.plan.kinds ≡ kinds.now) }
+    ensures sound { IfOk result IsSoundSource }
+    ensures refused { IfRefused result (RefusesFormatLine number kinds.now line.now) }
+{
+    let plan = read_format(alloc, number, kinds, line)?;
+    let text = texts.try_alloc_str(line)?;
+    let planned = texts.try_alloc_str(plan.format_text())?;
+    match Format::new(alloc, planned) {
+        Ok(format) => Ok(Source { text, plan, format }),
+        Err(_) => Err(Refusal::NoMemory),
+    }
+}
+
+/// Reads the values of the row on the line of this number.
+fn read_values(
+    alloc: Global,
+    source: &Source<'_>,
+    number: u64,
+    row: &str,
+    again: &mut String,
+) -> Result<Vec<Value>, Refusal<LineCause>>
+    requires { IsSoundSource source.now }
+    ensures read { IfOk result (λ values. IsRead source.now.plan row.now values.items) }
+    ensures refused { IfRefused result (IsNoRow source.now.plan number row.now) }
+{
+    match source.plan.read_row_by(alloc, &source.format, row, again) {
+        Ok(values) => Ok(values),
+        Err(RowError::NotARow) => Err(Refusal::Line(LineCause::NotARow { line: number })),
+        Err(RowError::NoMemory) => Err(Refusal::NoMemory),
+    }
+}
+
+/// Puts the line that the row is rewritten as, and a line feed, at the end of `out`. The row stands on the line of this
+/// number; `again` is a text in which it is printed again.
+pub(crate) fn rewrite_row(
+    alloc: Global,
+    source: &Source<'_>,
+    printer: &Printer<'_>,
+    number: u64,
+    row: &str,
+    again: &mut String,
+    out: &mut String,
+) -> Result<(), Refusal<LineCause>>
+    requires source { IsSoundSource source.now }
+    requires names { printer.now.names ≡ [] }
+    ensures kept { OnOk result ((line : List ℕ) × IsRewrittenAs (layout_of source.now printer.now) row.now line × (string_bytes out.new ≡ string_bytes out.old ++ (line ++ line_feed ∷ []))) }
+    ensures refused { IfRefused result (RefusesRow (layout_of source.now printer.now) number row.now) }
+    ensures as_before { OnErr result (string_bytes out.new ≡ string_bytes out.old) }
+{
+    prints_columns();
+    let values = read_values(alloc, source, number, row, again)?;
+    let before = out.len();
+    match printer.text_into(alloc, &values, out) {
+        Ok(()) => end_line(out, before),
+        Err(TextError::Fault(fault)) => Err(Refusal::Line(LineCause::Render {
+            line: number,
+            fault,
+        })),
+        Err(TextError::NoMemory) => Err(Refusal::NoMemory),
+    }
+}
