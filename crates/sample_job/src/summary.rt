@@ -1,5 +1,5 @@
 // The summary of a sample that was rewritten in memory.
-ghost use Rattle.std.specs.Prelude.{◌≡◌, ◌≤◌, IfOk, length, sum, string_bytes};
+ghost use Rattle.std.specs.Prelude.{◌≡◌, ◌≤◌, [], IfOk, length, sum, string_bytes};
 ghost use Rattle.edge_io.specs.Memory.{sink_held};
 ghost use Rattle.rewriting.specs.Rewritten.{IsRewritten};
 ghost use Rattle.sample.specs.Sample.{sample_bytes};
@@ -17,12 +17,14 @@ const LIMIT: u64 = 268435456;
 /// How many bytes are written for a row at most.
 const ROW_ROOM: usize = 64;
 
-/// A sink that has room for this many bytes.
-fn sink_with_room(alloc: Global, room: usize) -> Result<MemSink, AllocError>
+/// An empty sink with room for this many bytes.
+fn sink_with_room(alloc: Global, room: usize) -> Result<MemSink, NoMemory>
     ensures { IfOk result (λ sink. sink_held sink ≡ []) }
 {
-    let room = vec![in alloc; 0; room]?;
-    Ok(MemSink::new(room, usize::MAX, Vec::new(alloc)))
+    match vec![in alloc; 0; room] {
+        Ok(room) => Ok(MemSink::new(room, usize::MAX, Vec::new(alloc))),
+        Err(_) => Err(NoMemory),
+    }
 }
 
 /// The sink that holds what is written for the input. There is room for this many bytes.
@@ -30,9 +32,7 @@ fn rewritten_of(alloc: Global, bytes: Vec<u8>, room: usize) -> Result<MemSink, N
     ensures { IfOk result (λ sink. IsRewritten bytes.items (sink_held sink)) }
 {
     let mut input = MemSource::new(bytes, usize::MAX, Vec::new(alloc));
-    let Ok(mut output) = sink_with_room(alloc, room) else {
-        return Err(NoMemory);
-    };
+    let mut output = sink_with_room(alloc, room)?;
     match reformat(alloc, &mut input, &mut output, LIMIT) {
         Ok(_) => Ok(output),
         Err(_) => Err(NoMemory),
