@@ -1,5 +1,5 @@
 -- What the words of the program say, and what was done by them.
-use Rattle.std.proofs.Common.{◌≡◌, ◌≢◌, ◌<◌, ◌≤◌, ◌^◌, ℕ, List, [], ◌∷◌, refl, sym, ap, ◌∙◌, subst, inl, inr, length, get_or, map, codes, decimal, arith, Option, Some, None, MatchOption}
+use Rattle.std.proofs.Common.{◌≡◌, ◌≢◌, ◌<◌, ◌≤◌, ◌^◌, ℕ, List, [], ◌∷◌, refl, sym, ap, ◌∙◌, subst, inl, inr, false, length, get_or, map, decimal, arith, Option, Some, None, MatchOption}
 use Rattle.std.specs.Prelude.{SomeIff}
 use Rattle.std.proofs.lemmas.Fmt.{decimal_injective}
 use Rattle.numerals.specs.Numeral.{numeral, IsDigitText, text_value}
@@ -14,7 +14,7 @@ use Rattle.line_job.specs.Ends.{Seen, SourceState, SinkState, Took}
 use Rattle.line_job.specs.Told.{RunsTold}
 use Rattle.header_lines.specs.Message.{cause_message}
 use Rattle.plan_jobs.specs.Plan.{plan_rules, kinds_next as plan_start}
-use Rattle.plan_jobs.specs.Scan.{ScanStage, scan_rules}
+use Rattle.plan_jobs.specs.Scan.{scan_rules}
 use Rattle.plan_jobs.specs.Translate.{translate_rules, kinds_next as translate_start}
 use Rattle.plan_jobs.specs.TranslateMessage.{translate_message}
 use Rattle.sample_job.specs.Summary.{IsSummary}
@@ -124,30 +124,6 @@ two_are f (x ∷ y ∷ z ∷ words) first second text other two is also same too
 
 pub said_of : (a b : List (List ℕ)) (r : Option Command) → a ≡ b → MatchOption r (¬ IsCommand b) (IsSaid b) → MatchOption r (¬ IsCommand a) (IsSaid a)
 said_of a b r same h = subst (λ (words : List (List ℕ)). MatchOption r (¬ IsCommand words) (IsSaid words)) (sym same) h
-
--- two words that begin with no command's word are no command
-pub no_two_words : (word object : List ℕ) → word ≢ codes "scan" → word ≢ codes "translate" → word ≢ codes "sample" → ¬ IsCommand (word ∷ object ∷ [])
-no_two_words word object no_scan no_translate no_sample (inl e) = absurd (cc)
-no_two_words word object no_scan no_translate no_sample (inr (inl e)) = absurd (cc)
-no_two_words word object no_scan no_translate no_sample (inr (inr (inl (text, e)))) = let same : word ≡ codes "scan" = cc in no_scan same
-no_two_words word object no_scan no_translate no_sample (inr (inr (inr (inl (target, e))))) = let same : word ≡ codes "translate" = cc in no_translate same
-no_two_words word object no_scan no_translate no_sample (inr (inr (inr (inr (n, small, e))))) = let same : word ≡ codes "sample" = cc in no_sample same
-
--- a translation to no target is no command
-pub no_target : (object : List ℕ) → ((target : Target) → object ≢ target_word target) → ¬ IsCommand (codes "translate" ∷ object ∷ [])
-no_target object none (inl e) = absurd (cc)
-no_target object none (inr (inl e)) = absurd (cc)
-no_target object none (inr (inr (inl (text, e)))) = absurd (cc)
-no_target object none (inr (inr (inr (inl (target, e))))) = let same : object ≡ target_word target = cc in none target same
-no_target object none (inr (inr (inr (inr (n, small, e))))) = absurd (cc)
-
--- a sample of no number of rows is no command
-pub no_number : (object : List ℕ) → ((n : ℕ) → n ≤ sample_limit → object ≢ decimal n) → ¬ IsCommand (codes "sample" ∷ object ∷ [])
-no_number object none (inl e) = absurd (cc)
-no_number object none (inr (inl e)) = absurd (cc)
-no_number object none (inr (inr (inl (text, e)))) = absurd (cc)
-no_number object none (inr (inr (inr (inl (target, e))))) = absurd (cc)
-no_number object none (inr (inr (inr (inr (n, small, e))))) = let same : object ≡ decimal n = cc in none n small same
 
 -- numbers of rows
 

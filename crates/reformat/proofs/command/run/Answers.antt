@@ -56,11 +56,11 @@ returns-in-Some-clause-translated g c = λ target words.
 
 pub returns-in-Some-clause-samples : goal.returns-in-Some-clause-samples
 returns-in-Some-clause-samples g c = λ n small words. (
-      said_leaves (map string_bytes c.args.words.now) c.in-Some.command c.args.input.now c.run_command.new.input c.in-Some.ensures c.run_command.ensures.leaves n words,
-      said_sample (map string_bytes c.args.words.now) c.in-Some.command (source_seen g.S.Source.supply c.args.input.now c.run_command.new.input) (sink_seen g.K.Sink.held g.K.Sink.faults c.args.output.now c.run_command.new.output)
-    (sink_seen g.E.Sink.held g.E.Sink.faults c.args.errors.now c.run_command.new.errors) c.run_command.result
+  said_leaves (map string_bytes c.args.words.now) c.in-Some.command c.args.input.now c.run_command.new.input c.in-Some.ensures c.run_command.ensures.leaves n words,
+  said_sample (map string_bytes c.args.words.now) c.in-Some.command (source_seen g.S.Source.supply c.args.input.now c.run_command.new.input) (sink_seen g.K.Sink.held g.K.Sink.faults c.args.output.now c.run_command.new.output)
+      (sink_seen g.E.Sink.held g.E.Sink.faults c.args.errors.now c.run_command.new.errors) c.run_command.result
       c.in-Some.ensures c.run_command.ensures.does n small words,
-    )
+)
 
 pub returns-in-Some-clause-sampled : goal.returns-in-Some-clause-sampled
 returns-in-Some-clause-sampled g c = λ n small words zero.

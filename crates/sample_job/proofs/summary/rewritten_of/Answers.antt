@@ -1,6 +1,5 @@
 use Rattle.std.proofs.Common.{ap, refl, Some}
 use Rattle.edge_io.specs.Memory.{sink_held}
-use Rattle.line_job.specs.Ends.{source_seen, sink_seen}
 use Rattle.sample_job.proofs.SummaryLemmas.{holds_rewritten}
 use Rattle.sample_job.proofs.summary.rewritten_of.Goals as goal
 
