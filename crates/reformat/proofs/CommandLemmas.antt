@@ -1,32 +1,59 @@
 -- What the words of the program say, and what was done by them.
-use Rattle.std.proofs.Common.{◌≡◌, ℕ, List, [], ◌∷◌, ◌≢◌, sym, ap, ◌∙◌, subst, inl, inr, length, get_or, map, codes, arith, Option, MatchOption}
-use Rattle.line_job.specs.Ends.{Seen, SourceState, SinkState}
+use Rattle.std.proofs.Common.{◌≡◌, ◌≢◌, ◌<◌, ◌≤◌, ◌^◌, ℕ, List, [], ◌∷◌, refl, sym, ap, ◌∙◌, subst, inl, inr, false, length, get_or, map, decimal, arith, Option, Some, None, MatchOption}
+use Rattle.std.specs.Prelude.{SomeIff}
+use Rattle.std.proofs.lemmas.Fmt.{decimal_injective}
+use Rattle.numerals.specs.Numeral.{numeral, IsDigitText, text_value}
+use Rattle.numerals.specs.Laws.{HasNoLeadingZero}
+use Rattle.numerals.proofs.Reading.{numeral_reads}
+use Rattle.numerals.proofs.Unique.{numeral-digits}
+use Rattle.printer.specs.Inner.Keys.{IsPosition}
+use Rattle.printer.proofs.KeyLemmas.{no_zero_in_front, no_digits, is_position}
+use Rattle.translation.specs.declared.target.Target.{Target}
+use Rattle.translation.specs.declared.target.Target.TheVariants.{Strfmt, Formatx}
+use Rattle.line_job.specs.Ends.{Seen, SourceState, SinkState, Took}
 use Rattle.line_job.specs.Told.{RunsTold}
 use Rattle.header_lines.specs.Message.{cause_message}
 use Rattle.plan_jobs.specs.Plan.{plan_rules, kinds_next as plan_start}
-use Rattle.plan_jobs.specs.Scan.{ScanStage, scan_rules}
+use Rattle.plan_jobs.specs.Scan.{scan_rules}
+use Rattle.plan_jobs.specs.Translate.{translate_rules, kinds_next as translate_start}
+use Rattle.plan_jobs.specs.TranslateMessage.{translate_message}
+use Rattle.sample_job.specs.Summary.{IsSummary}
+use Rattle.sample_job.specs.Samples.{Samples}
 use Rattle.reformat.specs.declared.command.Command.{Command}
-use Rattle.reformat.specs.declared.command.Command.TheVariants.{Rewrite, Plan, Scan}
+use Rattle.reformat.specs.declared.command.Command.TheVariants.{Rewrite, Plan, Scan, Translate, Sample}
 use Rattle.rewriting.specs.Rules.{rewrite_rules, kinds_next}
-use Rattle.reformat.specs.Run.{rewrite_words, plan_words, scan_words, IsCommand, input_limit}
-use Rattle.reformat.specs.Inner.Said.{IsSaid, Does}
+use Rattle.reformat.specs.Run.{rewrite_words, plan_words, scan_words, target_word, translate_words, sample_words, sample_limit, IsCommand, input_limit}
+use Rattle.reformat.specs.Inner.Said.{IsSaid, IsWithin, Does, Leaves}
 
 pub said : (words : List (List ℕ)) (command : Command) → IsSaid words command → IsCommand words
 said words Rewrite is = inl is
 said words Plan is = inr (inl is)
-said words (Scan format) is = inr (inr (format.now, is))
+said words (Scan format) is = inr (inr (inl (format.now, is)))
+said words (Translate target) is = inr (inr (inr (inl (target, is))))
+said words (Sample n) is = inr (inr (inr (inr (n, is.0, is.1))))
+
+pub said_within : (words : List (List ℕ)) (command : Command) → IsSaid words command → IsWithin command
+said_within words Rewrite is = tt
+said_within words Plan is = tt
+said_within words (Scan format) is = tt
+said_within words (Translate target) is = tt
+said_within words (Sample n) is = is.0
 
 pub said_rewrite : (words : List (List ℕ)) (command : Command) (input : Seen SourceState) (output errors : Seen SinkState) (status : ℕ) → IsSaid words command → Does command input output errors status → words ≡ rewrite_words
     → RunsTold rewrite_rules kinds_next cause_message input_limit input output errors status
 said_rewrite words Rewrite input output errors status is does e = does
 said_rewrite words Plan input output errors status is does e = absurd (cc)
 said_rewrite words (Scan format) input output errors status is does e = absurd (cc)
+said_rewrite words (Translate target) input output errors status is does e = absurd (cc)
+said_rewrite words (Sample n) input output errors status is does e = absurd (cc (is.1))
 
 pub said_plan : (words : List (List ℕ)) (command : Command) (input : Seen SourceState) (output errors : Seen SinkState) (status : ℕ) → IsSaid words command → Does command input output errors status → words ≡ plan_words
     → RunsTold plan_rules plan_start cause_message input_limit input output errors status
 said_plan words Rewrite input output errors status is does e = absurd (cc)
 said_plan words Plan input output errors status is does e = does
 said_plan words (Scan format) input output errors status is does e = absurd (cc)
+said_plan words (Translate target) input output errors status is does e = absurd (cc)
+said_plan words (Sample n) input output errors status is does e = absurd (cc (is.1))
 
 pub said_scan : (words : List (List ℕ)) (command : Command) (input : Seen SourceState) (output errors : Seen SinkState) (status : ℕ) → IsSaid words command → Does command input output errors status → (text : List ℕ) → words ≡ scan_words text
     → RunsTold scan_rules (record { format = text }) cause_message input_limit input output errors status
@@ -36,6 +63,50 @@ said_scan words (Scan format) input output errors status is does text e =
     let both : scan_words format.now ≡ scan_words text = sym is ∙ e in
     let same : format.now ≡ text = cc in
     subst (λ (t : List ℕ). RunsTold scan_rules (record { format = t }) cause_message input_limit input output errors status) same does
+said_scan words (Translate target) input output errors status is does text e = absurd (cc)
+said_scan words (Sample n) input output errors status is does text e = absurd (cc (is.1))
+
+-- a target has a word of its own
+one_target : (a b : Target) → target_word a ≡ target_word b → a ≡ b
+one_target Strfmt Strfmt e = refl
+one_target Strfmt Formatx e = absurd (cc)
+one_target Formatx Strfmt e = absurd (cc)
+one_target Formatx Formatx e = refl
+
+pub said_translate : (words : List (List ℕ)) (command : Command) (input : Seen SourceState) (output errors : Seen SinkState) (status : ℕ) → IsSaid words command → Does command input output errors status → (wanted : Target) → words ≡ translate_words wanted
+    → RunsTold translate_rules (translate_start wanted) translate_message input_limit input output errors status
+said_translate words Rewrite input output errors status is does wanted e = absurd (cc)
+said_translate words Plan input output errors status is does wanted e = absurd (cc)
+said_translate words (Scan format) input output errors status is does wanted e = absurd (cc)
+said_translate words (Translate target) input output errors status is does wanted e =
+    let both : translate_words target ≡ translate_words wanted = sym is ∙ e in
+    let same : target_word target ≡ target_word wanted = cc in
+    subst (λ (t : Target). RunsTold translate_rules (translate_start t) translate_message input_limit input output errors status) (one_target target wanted same) does
+said_translate words (Sample n) input output errors status is does wanted e = absurd (cc (is.1))
+
+pub said_sample : (words : List (List ℕ)) (command : Command) (input : Seen SourceState) (output errors : Seen SinkState) (status : ℕ) → IsSaid words command → Does command input output errors status → (m : ℕ) → m ≤ sample_limit → words ≡ sample_words m
+    → Samples m output errors status
+said_sample words Rewrite input output errors status is does m small e = absurd (cc)
+said_sample words Plan input output errors status is does m small e = absurd (cc)
+said_sample words (Scan format) input output errors status is does m small e = absurd (cc)
+said_sample words (Translate target) input output errors status is does m small e = absurd (cc)
+said_sample words (Sample n) input output errors status is does m small e =
+    let both : sample_words n ≡ sample_words m = sym is.1 ∙ e in
+    let same : decimal n ≡ decimal m = cc in
+    subst (λ (k : ℕ). Samples k output errors status) (decimal_injective n m (omega (arith, is.0)) (omega (arith, small)) same) does
+
+pub said_leaves : {S : Type 0} (words : List (List ℕ)) (command : Command) (old new : S) → IsSaid words command → Leaves command old new → (m : ℕ) → words ≡ sample_words m → new ≡ old
+said_leaves words Rewrite old new is leaves m e = absurd (cc)
+said_leaves words Plan old new is leaves m e = absurd (cc)
+said_leaves words (Scan format) old new is leaves m e = absurd (cc)
+said_leaves words (Translate target) old new is leaves m e = absurd (cc)
+said_leaves words (Sample n) old new is leaves m e = leaves
+
+-- status 0 over a sample is that of its summary
+pub summary_written : (n : ℕ) (output errors : Seen SinkState) (status : ℕ) → Samples n output errors status → status ≡ 0 → (line : List ℕ) × IsSummary n line × Took output line
+summary_written n output errors status (inl sums) zero = (sums.line, sums.summary, sums.took)
+summary_written n output errors status (inr (inl fails)) zero = absurd (omega (arith, fails.status_is, zero))
+summary_written n output errors status (inr (inr lacks)) zero = absurd (omega (arith, lacks.status_is, zero))
 
 -- words, one by one
 
@@ -54,8 +125,28 @@ two_are f (x ∷ y ∷ z ∷ words) first second text other two is also same too
 pub said_of : (a b : List (List ℕ)) (r : Option Command) → a ≡ b → MatchOption r (¬ IsCommand b) (IsSaid b) → MatchOption r (¬ IsCommand a) (IsSaid a)
 said_of a b r same h = subst (λ (words : List (List ℕ)). MatchOption r (¬ IsCommand words) (IsSaid words)) (sym same) h
 
--- two words that don't begin with `scan` are no command
-pub no_scan : (word format : List ℕ) → word ≢ codes "scan" → ¬ IsCommand (word ∷ format ∷ [])
-no_scan word format not (inl e) = absurd (cc)
-no_scan word format not (inr (inl e)) = absurd (cc)
-no_scan word format not (inr (inr (text, e))) = let same : word ≡ codes "scan" = cc in not same
+-- numbers of rows
+
+-- a number of rows in decimal is its numeral
+decimal-numeral : (n : ℕ) → n ≤ sample_limit → decimal n ≡ numeral 10 false n
+decimal-numeral n small = sym (numeral-digits 10 n false (omega arith) (omega (arith, small)))
+
+-- a word that is no position is no number of rows
+pub no_rows : (word : List ℕ) → IsPosition word None → (n : ℕ) → n ≤ sample_limit → word ≢ decimal n
+no_rows word none n small e = none n (omega (arith, small)) (e ∙ decimal-numeral n small)
+
+pub no_rows_by_zero : (word : List ℕ) → 1 < length word → get_or word 0 0 ≡ 48 → (n : ℕ) → n ≤ sample_limit → word ≢ decimal n
+no_rows_by_zero word long first = no_rows word (λ place small. no_zero_in_front word place small long first)
+
+pub no_rows_by_digits : (word : List ℕ) → SomeIff {T = ℕ} None (IsDigitText 10 word × (text_value 10 word < 2 ^ 128)) (text_value 10 word) → (n : ℕ) → n ≤ sample_limit → word ≢ decimal n
+no_rows_by_digits word none = no_rows word (no_digits word none)
+
+pub too_many_rows : (word : List ℕ) (number : ℕ) → SomeIff (Some number) (IsDigitText 10 word × (text_value 10 word < 2 ^ 128)) (text_value 10 word) → sample_limit < number → (n : ℕ) → n ≤ sample_limit → word ≢ decimal n
+too_many_rows word number is large n small e =
+    let reads = numeral_reads 10 n false (omega arith) (omega arith) (omega (arith, small)) in
+    let value : text_value 10 word ≡ n = ap (text_value 10) (e ∙ decimal-numeral n small) ∙ reads.1 in
+    absurd (omega (arith, value, is.1, large, small))
+
+-- digits without a zero in front say the number of rows that they are in decimal
+pub rows_said : (word : List ℕ) (number : ℕ) → SomeIff (Some number) (IsDigitText 10 word × (text_value 10 word < 2 ^ 128)) (text_value 10 word) → HasNoLeadingZero word → number ≤ sample_limit → word ≡ decimal number
+rows_said word number is lead small = (is_position word number is lead (omega (arith, small))).1 ∙ sym (decimal-numeral number small)

@@ -1,5 +1,6 @@
 // The commands of the program.
-ghost use Rattle.std.specs.Prelude.{◌≡◌, ◌≤◌, ◌≢◌, ◌∷◌, [], ℕ, List, map, string_bytes, decimal, MatchOption};
+ghost use Rattle.std.specs.Prelude.{◌≡◌, ◌<◌, ◌≤◌, ◌≢◌, ◌↔◌, ◌∷◌, [], ℕ, List, length, map, slice_index, string_bytes, decimal, IsTrue, MatchOption};
+ghost use Rattle.std.specs.Str.{byte};
 ghost use Rattle.line_job.specs.Ends.{Tells, Took, source_seen, sink_seen};
 ghost use Rattle.line_job.specs.Told.{RunsTold};
 ghost use Rattle.header_lines.specs.Message.{cause_message};
@@ -14,10 +15,11 @@ ghost use Rattle.sample_job.specs.Summary.{IsSummary};
 ghost use Rattle.sample_job.specs.Samples.{Samples};
 ghost use Rattle.translation.specs.declared.target.Target.{Target};
 ghost use Rattle.reformat.specs.Run.{usage, rewrite_words, plan_words, scan_words, target_word, translate_words, sample_words, sample_limit, IsCommand, input_limit};
-ghost use Rattle.reformat.specs.Inner.Said.{IsSaid, Does};
+ghost use Rattle.reformat.specs.Inner.Said.{IsSaid, IsWithin, Does, Leaves};
 
 use edge_io::{Sink, Source};
 use line_job::tell;
+use numerals::{Radix, read_digits};
 use plan_jobs::{Target, run_plan, run_scan, run_translate};
 use rewriting::run_rewrite;
 use sample_job::run_sample;
@@ -27,7 +29,7 @@ use std::alloc::Global;
 const LIMIT: u64 = 268435456;
 
 /// How many rows a sample has at most.
-const SAMPLE_LIMIT: u64 = 1000000;
+const SAMPLE_LIMIT: u128 = 1000000;
 
 const USAGE: &[u8] =
     b"usage: reformat rewrite | plan | scan FORMAT | translate strfmt|formatx | sample N\n";
@@ -64,11 +66,25 @@ fn target_of(word: &str) -> Option<Target>
     }
 }
 
+/// Whether a zero stands in front of another byte.
+fn has_leading_zero(digits: &[u8]) -> bool
+    ensures { IsTrue result ↔ ((1 < length digits.now) × (slice_index digits.now 0 ≡ byte "0")) }
+{
+    digits.len() > 1 && digits[0] == b'0'
+}
+
 /// The number of rows that the word says in decimal, without a sign and without a zero in front.
 fn rows_of(word: &str) -> Option<u64>
     ensures { MatchOption result ((n : ℕ) → n ≤ sample_limit → word.now ≢ decimal n) (λ n. (n ≤ sample_limit) × (word.now ≡ decimal n)) }
 {
-    None
+    if has_leading_zero(word.as_bytes()) {
+        return None;
+    }
+    let number = read_digits(word, Radix::Ten)?;
+    if number > SAMPLE_LIMIT {
+        return None;
+    }
+    Some(number as u64)
 }
 
 /// The command that two words say.
@@ -107,6 +123,7 @@ fn run_command<S: Source, K: Sink, E: Sink>(
     errors: &mut E,
 ) -> u8
     requires { IsWithin command }
+    ensures leaves { Leaves command.entry input.old input.new }
     ensures does { Does command.entry (source_seen S.supply input.old input.new) (sink_seen K.held K.faults output.old output.new) (sink_seen E.held E.faults errors.old errors.new) result }
     ensures quiet { result ≡ 0 → errors.new ≡ errors.old }
 {

@@ -2,10 +2,12 @@
 #![tactic(auto)]
 
 #[cfg(test)]
+mod commands;
+#[cfg(test)]
 mod faults;
 #[cfg(test)]
 mod limits;
 #[cfg(test)]
-mod rewriting;
+mod rows;
 #[cfg(test)]
 mod support;

@@ -1,4 +1,5 @@
 // The job over a sample, and its ends.
+ghost use Rattle.std.specs.Prelude.{◌≡◌, ◌≤◌};
 ghost use Rattle.line_job.specs.Ends.{sink_seen};
 ghost use Rattle.sample_job.specs.Samples.{Samples};
 
@@ -11,7 +12,10 @@ use std::alloc::Global;
 /// refusal on the error output: 5 for a write fault, 6 for want of memory.
 pub fn run_sample<K: Sink, E: Sink>(alloc: Global, n: u64, output: &mut K, errors: &mut E) -> u8
     requires { n ≤ 1000000 }
-    ensures { Samples n (sink_seen K.held K.faults output.old output.new) (sink_seen E.held E.faults errors.old errors.new) result }
+    ensures sampled { Samples n (sink_seen K.held K.faults output.old output.new) (sink_seen E.held E.faults errors.old errors.new) result }
+
+    // Success tells nothing.
+    ensures quiet { result ≡ 0 → errors.new ≡ errors.old }
 {
     let Ok(line) = summary_of(alloc, n) else {
         tell(errors, b"no memory\n");

@@ -9,6 +9,6 @@ returns-in-len1 c =
 
 pub returns-in-len2 : goal.returns-in-len2
 returns-in-len2 c =
-    said_of (map string_bytes c.args.words.now) (c.as_str-word.result.now ∷ c.as_str-format.result.now ∷ []) c.two_words.result
-    (two_are string_bytes c.args.words.now c.first-item.result c.second-item.result c.as_str-word.result.now c.as_str-format.result.now (omega arith) c.first-item.is c.second-item.is c.as_str-word.ensures.value c.as_str-format.ensures.value)
+    said_of (map string_bytes c.args.words.now) (c.as_str-word.result.now ∷ c.as_str-object.result.now ∷ []) c.two_words.result
+    (two_are string_bytes c.args.words.now c.first-item.result c.second-item.result c.as_str-word.result.now c.as_str-object.result.now (omega arith) c.first-item.is c.second-item.is c.as_str-word.ensures.value c.as_str-object.ensures.value)
     c.two_words.ensures

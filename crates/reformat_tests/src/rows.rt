@@ -1,4 +1,4 @@
-// What is written and told for an input, with its words, status, output and message; `^` stands for a line feed.
+// Rows that are rewritten, and why they are not.
 use crate::support::{run_table, sink, source};
 use edge_io::MemSink;
 use reformat::{ReformatError, Refused, RenderFault, TemplateFault, reformat, run};
@@ -98,41 +98,6 @@ rewrite~u8 u8^%d-%d^printf^%s %d^1-2^~1~~line 5: template fault: WrongType^
 rewrite~u64^%.2i^printf^%%%d%%^9^~0~%9%^~
 rewrite~u8 u64^%u%%%u^printf^%*d|^3%5^~0~  5|^~";
 
-const PLANS: &str = "\
-plan~u32^%-5u|^anything~0~{d}|^~
-plan~word u32 word u64^%s [%08u] %s: %llu bytes^~0~{} [{d}] {}: {d} bytes^~
-plan~i32 i32^%d%+d^~0~{d}{d}^~
-plan~i32 u32^%08x%08x^~0~{8x}{8x}^~
-plan~u8 u8^%#X;%o^~0~0X{x};{d}^~
-plan~word i64^%s%25d^~0~{s}{d}^~
-plan~i8 word^%x:%s.^~0~{x}:{}.^~
-plan~u8 i8^%d%4d^~0~{d}{d}^~
-plan~char u8^%c%4d^~0~{s}{d}^~
-plan~u8 char^%d%2c^~0~{d}{s}^~
-plan~^{%%}^x^~0~{{%}}^~
-plan~u8^%d~0~{d}^~
-plan~~1~~line 1: bad header^
-plan~f64^%d^~1~~line 1: bad header^
-plan~u8^~1~~line 2: bad header^
-plan~u8^%y^~1~~line 2: not a printf format^
-plan~word^%.3s^~1~~line 2: field 1: lossy^";
-
-const SCANS: &str = "\
-scan {d}-{d}~1-2^^x^~0~1\t2^^^~
-scan {d}-{d}~~0~~
-scan {d}-{d}~1-2~0~1\t2^~
-scan {s}{s}~a b^c^~0~a\tb^c^~
-scan {/[a-c]+/}{d}~abc12^~0~abc\t12^~
-scan x~x^y^~0~^^~";
-
-const NO_COMMANDS: &str = "\
-~u64^~2~~usage: reformat rewrite | plan | scan FORMAT | translate strfmt|formatx | sample N^
-rewrite x~u64^~2~~usage: reformat rewrite | plan | scan FORMAT | translate strfmt|formatx | sample N^
-plan x~u64^~2~~usage: reformat rewrite | plan | scan FORMAT | translate strfmt|formatx | sample N^
-scan~u64^~2~~usage: reformat rewrite | plan | scan FORMAT | translate strfmt|formatx | sample N^
-scan {d} {d}~u64^~2~~usage: reformat rewrite | plan | scan FORMAT | translate strfmt|formatx | sample N^
-sample 01~u64^~2~~usage: reformat rewrite | plan | scan FORMAT | translate strfmt|formatx | sample N^";
-
 #[test]
 fn rewrites_rows(rt: HostRuntime) -> Result<(), Fail> {
     run_table(&rt, rt.alloc(), ROWS, 4096)
@@ -168,71 +133,6 @@ fn refuses_what_can_not_be_read_back(rt: HostRuntime) -> Result<(), Fail> {
 #[test]
 fn prints_by_any_template(rt: HostRuntime) -> Result<(), Fail> {
     run_table(&rt, rt.alloc(), TEMPLATES, 4096)
-}
-
-#[test]
-fn plans_formats(rt: HostRuntime) -> Result<(), Fail> {
-    run_table(&rt, rt.alloc(), PLANS, 4096)?;
-    run_table(&rt, rt.alloc(), PLANS, 1)
-}
-
-#[test]
-fn scans_lines(rt: HostRuntime) -> Result<(), Fail> {
-    run_table(&rt, rt.alloc(), SCANS, 4096)?;
-    run_table(&rt, rt.alloc(), SCANS, 1)
-}
-
-#[test]
-fn knows_its_commands(rt: HostRuntime) -> Result<(), Fail> {
-    run_table(&rt, rt.alloc(), NO_COMMANDS, 4096)
-}
-
-// The text that is planned for a format scans a row of it.
-#[test]
-fn scans_by_what_it_planned(rt: HostRuntime) -> Result<(), Fail> {
-    let alloc = rt.alloc();
-    let mut errors = sink(alloc, 1)?;
-    let mut input = source(alloc, b"word u32 word u64\n%s [%08u] %s: %llu bytes\n", 7)?;
-    let mut planned = sink(alloc, 7)?;
-    let words = vec![in alloc; String::from_str(alloc, "plan")?]?;
-    let got = run(alloc, &words, &mut input, &mut planned, &mut errors);
-    assert_eq!(rt; got, 0);
-    let format = planned.bytes().strip_suffix(b"\n").ok_or("no line feed")?;
-    let format = String::from_utf8(format.to_vec(alloc)?)
-        .ok()
-        .ok_or("no text")?;
-    let mut input = source(alloc, b"web01 [00000412] GET: 5120 bytes\n", 7)?;
-    let mut output = sink(alloc, 7)?;
-    let words = vec![in alloc; String::from_str(alloc, "scan")?, format]?;
-    let got = run(alloc, &words, &mut input, &mut output, &mut errors);
-    assert_eq!(rt; got, 0);
-    assert_eq!(rt; output.bytes(), b"web01\t00000412\tGET\t5120\n".as_slice());
-    assert_eq!(rt; errors.bytes(), b"".as_slice());
-    Ok(())
-}
-
-// A line that isn't UTF-8 is refused where it is judged, and read where it isn't.
-#[test]
-fn judges_lines_as_text(rt: HostRuntime) -> Result<(), Fail> {
-    let alloc = rt.alloc();
-    for (word, bytes, want, told) in [
-        ("plan", b"u8\n%d\n\xff\n".as_slice(), 0, b"".as_slice()),
-        (
-            "plan",
-            b"u8\n\xff\n".as_slice(),
-            1,
-            b"line 2: not UTF-8\n".as_slice(),
-        ),
-    ] {
-        let mut input = source(alloc, bytes, 2)?;
-        let mut output = sink(alloc, 1)?;
-        let mut errors = sink(alloc, 1)?;
-        let words = vec![in alloc; String::from_str(alloc, word)?]?;
-        let got = run(alloc, &words, &mut input, &mut output, &mut errors);
-        assert_eq!(rt; got, want);
-        assert_eq!(rt; errors.bytes(), told);
-    }
-    Ok(())
 }
 
 #[test]
