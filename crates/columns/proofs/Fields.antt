@@ -1,7 +1,6 @@
 -- What fields print of what is taken.
-use Rattle.std.proofs.Common.{◌≡◌, ◌<◌, ◌≤◌, ◌^◌, ◌+◌, ℕ, Bool, true, false, if◌then◌else◌, List, [], ◌∷◌, ◌++◌, length, map, Some, Result, Ok, sym, ap, subst, refl, inl, ◌*◌, ◌∙◌, arith}
+use Rattle.std.proofs.Common.{◌≡◌, ◌<◌, ◌≤◌, ◌^◌, ◌+◌, ℕ, Bool, true, false, if◌then◌else◌, List, [], ◌∷◌, ◌++◌, length, map, Some, Result, Ok, sym, ap, subst, refl, ◌*◌, ◌∙◌, arith}
 use Rattle.std.proofs.lemmas.List.{append-nil}
-use Rattle.std.proofs.lemmas.Bool.Decides.{nat_tests}
 use Rattle.std.specs.Char.{digit_value}
 use Rattle.std.specs.Str.{byte}
 use Rattle.std.specs.Str.Parse.{AllDigits, digits_value}
@@ -9,7 +8,7 @@ use Rattle.std.specs.Int.Digits.{number_from_digits_after}
 use Rattle.std.proofs.Math.Nat.{pow-suc, pow-zero}
 use Rattle.std.proofs.lemmas.Grind.{common_steps}
 use Rattle.std.proofs.lemmas.Int.Digits.{digits_value_is}
-use Rattle.numerals.specs.Laws.{NumeralOfValue, AllOfCase}
+use Rattle.numerals.specs.Laws.{NumeralOfValue}
 use Rattle.numerals.specs.Numeral.{numeral, AllBelow, text_value, place_sum}
 use Rattle.padding.specs.Field.{fills}
 use Rattle.sprintf.specs.declared.PrintfError.{PrintfError}
@@ -45,21 +44,14 @@ pub below_digits : (b : ℕ) (bs : List ℕ) → AllDigits b bs → AllBelow b (
 below_digits b [] h = tt
 below_digits b (c ∷ cs) h = (h.0, below_digits b cs h.1)
 
-digit_small : (c : ℕ) → digit_value c < 10 → c < 65
-digit_small c h = grind (arith, nat_tests)
-
-no_capitals : (text : List ℕ) → AllDigits 10 text → AllOfCase false text
-no_capitals [] h = tt
-no_capitals (c ∷ cs) h = (inl (digit_small c h.0), no_capitals cs h.1)
-
 -- digits without a zero in front of others are the numeral of what they stand for
-pub natural_text : NumeralOfValue → (text : List ℕ) (number : ℕ) → IsNatural text number → number < 2 ^ 64 → text ≡ numeral 10 false number
-natural_text law text number is small =
-    let value : text_value 10 text ≡ number = sym (digits_value-text_value 10 text) ∙ is.digits.value in
-    law 10 false text (omega arith) (omega arith) (is.some, below_digits 10 text is.digits.digits) (no_capitals text is.digits.digits) is.lead (omega (arith, value, small)) ∙ ap (numeral 10 false) value
+pub natural_text : NumeralOfValue → (base : ℕ) (upper : Bool) (text : List ℕ) (number : ℕ) → 2 ≤ base → base ≤ 16 → IsNatural base upper text number → number < 2 ^ 64 → text ≡ numeral base upper number
+natural_text law base upper text number low high is small =
+    let value : text_value base text ≡ number = sym (digits_value-text_value base text) ∙ is.digits.value in
+    law base upper text low high (is.some, below_digits base text is.digits.digits) is.digits.letters is.lead (omega (arith, value, small)) ∙ ap (numeral base upper) value
 
 -- without a width nothing is filled
-filled_by : (left zeros : Bool) (lead digits : List ℕ) (room : ℕ) → room ≡ 0
+pub filled_by : (left zeros : Bool) (lead digits : List ℕ) (room : ℕ) → room ≡ 0
     → (if left then lead ++ digits ++ fills room (byte " ") else (if zeros then lead ++ fills room (byte "0") ++ digits else fills room (byte " ") ++ lead ++ digits)) ≡ lead ++ digits
 filled_by true zeros lead digits room e = rw e (append-nil (lead ++ digits))
 filled_by false true lead digits room e = rw e (ap (λ (t : List ℕ). t ++ digits) (append-nil lead))
@@ -114,5 +106,5 @@ serves_natural law f kind after greatest decimal width is row token shape =
     let range = in_range kind greatest token.number is shape.1 in
     record {
       fit = subst (λ (d : Datum). IsFit (record { field = f; after = after }) kind d) (sym datum) (range.0, tt);
-      text = natural_text law (token_text row token) token.number shape.0 range.1 ∙ sym (unsigned_field f kind greatest token.number (numeral 10 false token.number) decimal (bare_unsigned f token.number decimal width) is) ∙ ap (field_text f kind) (sym datum);
+      text = natural_text law 10 false (token_text row token) token.number (omega arith) (omega arith) shape.0 range.1 ∙ sym (unsigned_field f kind greatest token.number (numeral 10 false token.number) decimal (bare_unsigned f token.number decimal width) is) ∙ ap (field_text f kind) (sym datum);
     }

@@ -1,5 +1,5 @@
 -- What fields print that zeros fill.
-use Rattle.std.proofs.Common.{◌≡◌, ◌≢◌, ◌<◌, ◌≤◌, ◌^◌, ◌+◌, ◌-◌, ◌*◌, zero, suc, ℕ, Bool, true, false, if◌then◌else◌, List, [], ◌∷◌, ◌++◌, length, map, replicate, encode_utf8_all, Some, Result, Ok, sym, ap, subst, refl, ◌∙◌, ⊎_elim, arith, length-append}
+use Rattle.std.proofs.Common.{◌≡◌, ◌<◌, ◌≤◌, ◌^◌, ◌+◌, ◌-◌, ◌*◌, zero, suc, ℕ, Bool, true, false, if◌then◌else◌, List, [], ◌∷◌, ◌++◌, length, map, replicate, Some, Ok, sym, ap, subst, refl, ◌∙◌, ⊎_elim, arith, length-append}
 use Rattle.std.specs.Char.{digit_value}
 use Rattle.std.specs.Str.{byte}
 use Rattle.std.specs.Str.Parse.{digits_value}
@@ -23,31 +23,30 @@ use Rattle.columns.specs.Inner.Shapes.{AreDigits, IsNatural, IsFilled}
 use Rattle.columns.specs.declared.take.Take.TheVariants.{Filled}
 use Rattle.columns.proofs.Fields.{digits_value-text_value, natural_text, no_prefix, unsigned_field, unsigned_datum, in_range}
 use Rattle.tokens.specs.Tokens.{datum_at}
-use Rattle.tokens.specs.declared.Token.{Token}
 
 -- digits are zeros, and then digits without a zero in front of others
-record ZerosInFront (text : List ℕ) (number : ℕ) : Type 0 where
+record ZerosInFront (base : ℕ) (upper : Bool) (text : List ℕ) (number : ℕ) : Type 0 where
   zeros : ℕ
   body : List ℕ
   whole : text ≡ replicate zeros 48 ++ body
-  natural : IsNatural body number
+  natural : IsNatural base upper body number
 
-least_digit : (c : ℕ) → digit_value c < 10 → 48 ≤ c
-least_digit c h = grind (arith, nat_tests)
+least_digit : (base c : ℕ) → base ≤ 16 → digit_value c < base → 48 ≤ c
+least_digit base c high h = grind (arith, nat_tests)
 
-value_behind_zero : (x : ℕ) (rest : List ℕ) (number : ℕ) → x ≡ 48 → digits_value 10 (x ∷ rest) ≡ number → digits_value 10 rest ≡ number
-value_behind_zero x rest number e is =
+value_behind_zero : (base x : ℕ) (rest : List ℕ) (number : ℕ) → x ≡ 48 → digits_value base (x ∷ rest) ≡ number → digits_value base rest ≡ number
+value_behind_zero base x rest number e is =
     let none : digit_value x ≡ 0 = ap digit_value e in
-    let less : text_value 10 (x ∷ rest) ≡ text_value 10 rest = omega (arith, ap (λ k. k * 10 ^ length (map digit_value rest)) none) in
-    digits_value-text_value 10 rest ∙ sym less ∙ sym (digits_value-text_value 10 (x ∷ rest)) ∙ is
+    let less : text_value base (x ∷ rest) ≡ text_value base rest = omega (arith, ap (λ k. k * base ^ length (map digit_value rest)) none) in
+    digits_value-text_value base rest ∙ sym less ∙ sym (digits_value-text_value base (x ∷ rest)) ∙ is
 
-split_zeros : (text : List ℕ) (number : ℕ) → 0 < length text → AreDigits text number → ZerosInFront text number
-split_zeros [] number some is = absurd (omega (arith, some))
-split_zeros (x ∷ []) number some is = record { zeros = 0; body = x ∷ []; whole = refl; natural = record { some = some; lead = λ more. absurd (omega (arith, more)); digits = is } }
-split_zeros (x ∷ y ∷ rest) number some is = ⊎_elim
+split_zeros : (base : ℕ) (upper : Bool) (text : List ℕ) (number : ℕ) → base ≤ 16 → 0 < length text → AreDigits base upper text number → ZerosInFront base upper text number
+split_zeros base upper [] number high some is = absurd (omega (arith, some))
+split_zeros base upper (x ∷ []) number high some is = record { zeros = 0; body = x ∷ []; whole = refl; natural = record { some = some; lead = λ more. absurd (omega (arith, more)); digits = is } }
+split_zeros base upper (x ∷ y ∷ rest) number high some is = ⊎_elim
     (λ (small : x < 49).
-    let e : x ≡ 48 = omega (arith, small, least_digit x is.digits.0) in
-    let inner : ZerosInFront (y ∷ rest) number = split_zeros (y ∷ rest) number (omega arith) (record { digits = is.digits.1; value = value_behind_zero x (y ∷ rest) number e is.value }) in
+    let e : x ≡ 48 = omega (arith, small, least_digit base x high is.digits.0) in
+    let inner : ZerosInFront base upper (y ∷ rest) number = split_zeros base upper (y ∷ rest) number high (omega arith) (record { digits = is.digits.1; letters = is.letters.1; value = value_behind_zero base x (y ∷ rest) number e is.value }) in
     record { zeros = suc inner.zeros; body = inner.body; whole = λ i. e i ∷ inner.whole i; natural = inner.natural })
     (λ (great : 49 ≤ x). record { zeros = 0; body = x ∷ y ∷ rest; whole = refl; natural = record { some = some; lead = λ more same. absurd (omega (arith, same, great)); digits = is } })
     (cases_lt x 49)
@@ -57,18 +56,18 @@ zeros_are zero = refl
 zeros_are (suc n) = rw (encode_ascii 48 (omega arith)) (ap (λ (x : List ℕ). 48 ∷ x) (zeros_are n))
 
 -- digits of a width are the numeral, which zeros fill
-pub filled_is : NumeralOfValue → (text : List ℕ) (width number : ℕ) → IsFilled width text number → number < 2 ^ 64 → text ≡ fills (width - length (numeral 10 false number)) (byte "0") ++ numeral 10 false number
-filled_is law text width number is small = ⊎_elim
+pub filled_is : NumeralOfValue → (base : ℕ) (upper : Bool) (text : List ℕ) (width number : ℕ) → 2 ≤ base → base ≤ 16 → IsFilled base upper width text number → number < 2 ^ 64 → text ≡ fills (width - length (numeral base upper number)) (byte "0") ++ numeral base upper number
+filled_is law base upper text width number low high is small = ⊎_elim
     (λ (longer : width < length text).
-    let plain : text ≡ numeral 10 false number = natural_text law text number (record { some = is.some; lead = is.lead longer; digits = is.digits }) small in
-    let none : 0 ≡ width - length (numeral 10 false number) = omega (arith, ap length plain, longer) in
-    plain ∙ ap (λ k. fills k (byte "0") ++ numeral 10 false number) none)
+    let plain : text ≡ numeral base upper number = natural_text law base upper text number low high (record { some = is.some; lead = is.lead longer; digits = is.digits }) small in
+    let none : 0 ≡ width - length (numeral base upper number) = omega (arith, ap length plain, longer) in
+    plain ∙ ap (λ k. fills k (byte "0") ++ numeral base upper number) none)
     (λ (within : length text ≤ width).
-    let split : ZerosInFront text number = split_zeros text number is.some is.digits in
-    let body : split.body ≡ numeral 10 false number = natural_text law split.body number split.natural small in
-    let len : length text ≡ split.zeros + length (numeral 10 false number) = ap length split.whole ∙ length-append (replicate split.zeros 48) split.body ∙ omega (arith, length-replicate {A = ℕ} split.zeros 48, ap length body) in
-    let room : split.zeros ≡ width - length (numeral 10 false number) = omega (arith, len, within, is.wide) in
-    split.whole ∙ ap (λ (t : List ℕ). replicate split.zeros 48 ++ t) body ∙ ap (λ (t : List ℕ). t ++ numeral 10 false number) (sym (zeros_are split.zeros)) ∙ ap (λ k. fills k (byte "0") ++ numeral 10 false number) room)
+    let split : ZerosInFront base upper text number = split_zeros base upper text number high is.some is.digits in
+    let body : split.body ≡ numeral base upper number = natural_text law base upper split.body number low high split.natural small in
+    let len : length text ≡ split.zeros + length (numeral base upper number) = ap length split.whole ∙ length-append (replicate split.zeros 48) split.body ∙ omega (arith, length-replicate {A = ℕ} split.zeros 48, ap length body) in
+    let room : split.zeros ≡ width - length (numeral base upper number) = omega (arith, len, within, is.wide) in
+    split.whole ∙ ap (λ (t : List ℕ). replicate split.zeros 48 ++ t) body ∙ ap (λ (t : List ℕ). t ++ numeral base upper number) (sym (zeros_are split.zeros)) ∙ ap (λ k. fills k (byte "0") ++ numeral base upper number) room)
     (cases_lt width (length text))
 
 zeros_by : (left zeros : Bool) (digits : List ℕ) (room : ℕ) → left ≡ false → zeros ≡ true
@@ -93,7 +92,7 @@ serves_filled law f kind after greatest width decimal wide left zeros is row tok
     let range = in_range kind greatest token.number is shape.1 in
     record {
       fit = subst (λ (d : Datum). IsFit (record { field = f; after = after }) kind d) (sym datum) (range.0, tt);
-      text = filled_is law (token_text row token) width token.number shape.0 range.1
+      text = filled_is law 10 false (token_text row token) width token.number (omega arith) (omega arith) shape.0 range.1
           ∙ sym (unsigned_field f kind greatest token.number (fills (width - length (numeral 10 false token.number)) (byte "0") ++ numeral 10 false token.number) decimal (zero_unsigned f token.number width decimal wide left zeros) is)
           ∙ ap (field_text f kind) (sym datum);
     }

@@ -1,5 +1,5 @@
 -- What fields print of the numbers with signs that are taken.
-use Rattle.std.proofs.Common.{◌≡◌, ◌⊎◌, ◌<◌, ◌≤◌, ◌^◌, ◌+◌, ◌-◌, suc, ℕ, ℤ, pos, negsuc, Bool, true, false, if◌then◌else◌, List, [], ◌∷◌, ◌++◌, Some, Result, Ok, codes, unsigned_abs, inl, inr, sym, ap, subst, refl, ◌∙◌, ⊎_elim, arith, append_assoc}
+use Rattle.std.proofs.Common.{◌≡◌, ◌⊎◌, ◌<◌, ◌≤◌, ◌+◌, ◌-◌, suc, ℕ, ℤ, pos, negsuc, Bool, true, false, if◌then◌else◌, List, [], ◌∷◌, ◌++◌, Some, Result, Ok, codes, unsigned_abs, inl, inr, sym, ap, subst, refl, ◌∙◌, ⊎_elim, arith, append_assoc}
 use Rattle.std.specs.Int.{w64, cast_signed}
 use Rattle.std.specs.Str.{byte, IsUtf8}
 use Rattle.std.proofs.lemmas.Fmt.{IsAscii-from_digits}
@@ -27,7 +27,7 @@ use Rattle.columns.proofs.Fields.{natural_text, bare_number, by_decimal}
 use Rattle.tokens.specs.Tokens.{datum_at}
 use Rattle.tokens.specs.declared.Token.{Token}
 
-digits_utf8 : (text : List ℕ) (number : ℕ) → IsNatural text number → IsUtf8 text
+digits_utf8 : (text : List ℕ) (number : ℕ) → IsNatural 10 false text number → IsUtf8 text
 digits_utf8 text number is = IsUtf8-from_ascii text (IsAscii-from_digits text is.digits.digits)
 
 sign_utf8 : (plus : Bool) → IsUtf8 (plus_sign plus)
@@ -111,7 +111,7 @@ serves_negative law f kind after row token greatest decimal width is n =
     let size : suc k ≡ n.size = omega (arith, n.some) in
     let range = negative_range kind greatest k is (omega (arith, n.small, n.some)) in
     let number : token.number ≡ 18446744073709551616 - suc k = omega (arith, n.complement, size) in
-    let digits : n.digits ≡ numeral 10 false (suc k) = natural_text law n.digits n.size n.natural (omega (arith, n.small, n.some, range.1)) ∙ ap (numeral 10 false) (sym size) in
+    let digits : n.digits ≡ numeral 10 false (suc k) = natural_text law 10 false n.digits n.size (omega arith) (omega arith) n.natural (omega (arith, n.small, n.some, range.1)) ∙ ap (numeral 10 false) (sym size) in
     served f kind after row token greatest (negsuc k) is (ap (cast_signed w64) number ∙ to_z-neg w64 k range.1) range.0
     (n.whole ∙ ap (λ (t : List ℕ). byte "-" ∷ t) digits ∙ sym (signed_field f kind greatest (negsuc k) (codes "-" ++ numeral 10 false (suc k)) decimal (bare_number f (codes "-") (suc k) decimal width) is))
 
@@ -119,7 +119,7 @@ serves_positive : NumeralOfValue → (f : ConversionSpecifier) (kind : Kind) (af
 serves_positive law f kind after row token greatest decimal width space is p =
     let n = token.number in
     let range = positive_range kind greatest n is p.small in
-    let digits : p.digits ≡ numeral 10 false n = natural_text law p.digits n p.natural (omega (arith, range.1)) in
+    let digits : p.digits ≡ numeral 10 false n = natural_text law 10 false p.digits n (omega arith) (omega arith) p.natural (omega (arith, range.1)) in
     let told : number_text f (sign_of f (pos n)) n ≡ Ok (plus_sign f.force_sign ++ numeral 10 false n) = bare_number f (sign_of f (pos n)) n decimal width ∙ ap (λ (s : List ℕ). Ok (s ++ numeral 10 false n)) (sign_by f.force_sign f.space_sign space) in
     served f kind after row token greatest (pos n) is (to_z_pos w64 n range.1) range.0
     (p.whole ∙ ap (λ (t : List ℕ). plus_sign f.force_sign ++ t) digits ∙ sym (signed_field f kind greatest (pos n) (plus_sign f.force_sign ++ numeral 10 false n) decimal told is))

@@ -1,6 +1,7 @@
 pub mod Digits
 pub mod Fields
 pub mod Filled
+pub mod Forms
 pub mod Integers
 pub mod Rows
 pub mod Words

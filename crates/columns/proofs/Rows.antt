@@ -4,7 +4,7 @@ use Rattle.std.specs.Str.{IsUtf8, IsCharBoundary}
 use Rattle.std.proofs.lemmas.Fmt.{IsAscii-from_digits}
 use Rattle.std.proofs.lemmas.Str.{IsUtf8-drop, IsUtf8-from_ascii, IsCharBoundary-from_take, IsCharBoundary-from_drop}
 use Rattle.values.specs.declared.kind.Kind.TheVariants.{Word as WordKind}
-use Rattle.columns.specs.declared.take.Take.TheVariants.{Natural, Filled, Integer, Word}
+use Rattle.columns.specs.declared.take.Take.TheVariants.{Natural, Filled, Integer, Bits, Word}
 use Rattle.std.proofs.Math.Seq.{take-append_seam, drop-append_seam}
 use Rattle.std.proofs.lemmas.List.{map_push, take_more, append-nil, drop-drop, take_rest}
 use Rattle.sprintf.specs.declared.parser.ConversionSpecifier.{ConversionSpecifier}
@@ -20,6 +20,7 @@ use Rattle.columns.specs.Inner.Steps.{column_of, columns_of, kinds_of, IsServedS
 use Rattle.columns.specs.declared.take.Take.{Take}
 use Rattle.columns.specs.declared.step.Step.{Step}
 use Rattle.columns.proofs.Integers.{integer_utf8}
+use Rattle.columns.proofs.Forms.{form_utf8}
 use Rattle.tokens.specs.declared.Token.{Token}
 
 pub some_of_match : {A : Type 0} (r : Option A) (P : Type 0) (Q : A → Type 0) → MatchOption r P Q → IfSome r Q
@@ -39,6 +40,7 @@ shape_utf8 : (take_by : Take) (text : List ℕ) (number : ℕ) → Shape take_by
 shape_utf8 (Natural greatest) text number shape = IsUtf8-from_ascii text (IsAscii-from_digits text shape.0.digits.digits)
 shape_utf8 (Filled greatest width) text number shape = IsUtf8-from_ascii text (IsAscii-from_digits text shape.0.digits.digits)
 shape_utf8 (Integer greatest plus) text number shape = integer_utf8 greatest plus text number shape
+shape_utf8 (Bits form) text number shape = form_utf8 form text number shape
 shape_utf8 (Word stop) text number shape = shape.1.utf8
 
 printed_whole : (column : Column) (kind : Kind) (row : List ℕ) (token : Token) → IsFit column kind (datum_at kind row token) → length (token_text row token) ≡ token.end - token.start → IsPrintedWhole kind token

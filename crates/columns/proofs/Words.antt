@@ -1,5 +1,5 @@
 -- What fields print of the words that are taken.
-use Rattle.std.proofs.Common.{◌≡◌, ◌≢◌, ◌<◌, ◌≤◌, ◌+◌, ◌-◌, min, take_all, ℕ, Bool, true, false, if◌then◌else◌, List, [], ◌∷◌, ◌++◌, length, take, drop, zero, suc, length-drop, get_or, Option, Some, None, Result, Ok, sym, ap, subst, refl, ◌∙◌, ⊎_elim, arith}
+use Rattle.std.proofs.Common.{◌≡◌, ◌<◌, ◌≤◌, ◌+◌, ◌-◌, min, take_all, ℕ, Bool, true, false, if◌then◌else◌, List, [], ◌∷◌, ◌++◌, length, take, drop, zero, suc, length-drop, get_or, Option, Some, None, Result, Ok, sym, ap, subst, refl, ◌∙◌, ⊎_elim, arith}
 use Rattle.std.specs.List.{AllByRecursion}
 use Rattle.std.specs.Str.{byte, chars, IsUtf8, IsCharBoundary, encode_utf8_all}
 use Rattle.std.specs.Char.{encode_utf8}
@@ -22,8 +22,8 @@ use Rattle.values.specs.declared.kind.Kind.{Kind}
 use Rattle.values.specs.declared.kind.Kind.TheVariants.{Word as WordKind}
 use Rattle.row_format.specs.Columns.{text_or_none}
 use Rattle.columns.specs.Fields.{token_text}
-use Rattle.columns.specs.Inner.Serves.{Serves, IsServed, IsStop}
-use Rattle.columns.specs.Inner.Shapes.{IsWordByte, IsWord, IsTaken}
+use Rattle.columns.specs.Inner.Serves.{Serves, IsStop}
+use Rattle.columns.specs.Inner.Shapes.{IsWordByte, IsTaken}
 use Rattle.columns.specs.declared.take.Take.TheVariants.{Word}
 use Rattle.tokens.specs.declared.Token.{Token}
 

@@ -9,7 +9,7 @@ const SAFE: usize = 19;
 // The number that the digits in front are, at most nineteen of them, and how many they are.
 #[inline(always)]
 fn digits_in_front(text: &[u8]) -> (u64, usize)
-    ensures digits { AreDigits (take result.1 text.now) result.0 }
+    ensures digits { AreDigits 10 false (take result.1 text.now) result.0 }
     ensures within { result.1 ≤ length text.now }
     ensures few { result.1 ≤ 19 }
 {
@@ -29,9 +29,9 @@ fn digits_in_front(text: &[u8]) -> (u64, usize)
 // The number with the twentieth digit behind it, if that is one; None where the number is too great.
 #[cold]
 fn with_last_digit(text: &[u8], number: u64) -> Option<(u64, usize)>
-    requires digits { AreDigits (take 19 text.now) number }
+    requires digits { AreDigits 10 false (take 19 text.now) number }
     requires many { 19 ≤ length text.now }
-    ensures digits { IfSome result (λ found. AreDigits (take found.1 text.now) found.0) }
+    ensures digits { IfSome result (λ found. AreDigits 10 false (take found.1 text.now) found.0) }
     ensures within { IfSome result (λ found. found.1 ≤ length text.now) }
 {
     match text.get(SAFE) {
@@ -48,7 +48,7 @@ fn with_last_digit(text: &[u8], number: u64) -> Option<(u64, usize)>
 // The number that all the digits in front are, and how many they are; at most twenty are looked at.
 #[inline(always)]
 fn long_digits_in_front(text: &[u8]) -> Option<(u64, usize)>
-    ensures digits { IfSome result (λ found. AreDigits (take found.1 text.now) found.0) }
+    ensures digits { IfSome result (λ found. AreDigits 10 false (take found.1 text.now) found.0) }
     ensures within { IfSome result (λ found. found.1 ≤ length text.now) }
 {
     let (number, count) = digits_in_front(text);
@@ -80,9 +80,9 @@ pub(crate) fn take_natural(text: &[u8], greatest: u64) -> Option<(u64, &[u8])>
     (number <= greatest).then_some((number, rest))
 }
 
-// Whether digits begin with a zero in front of others.
+/// Whether digits begin with a zero in front of others.
 #[inline(always)]
-fn has_zero_in_front(text: &[u8], count: usize) -> bool
+pub(crate) fn has_zero_in_front(text: &[u8], count: usize) -> bool
     requires { count ≤ length text.now }
     ensures { result ≡ false → 1 < count → slice_index text.now 0 ≢ 48 }
 {

@@ -27,6 +27,9 @@ pub(crate) fn behind<'t>(text: &'t [u8], front: &[u8]) -> Option<&'t [u8]>
     match (front, text) {
         ([], _) => Some(text),
         ([byte], [first, rest @ ..]) => (byte == first).then_some(rest),
+        ([byte, next], [first, second, rest @ ..]) => {
+            (byte == first && next == second).then_some(rest)
+        }
         _ => text.strip_prefix(front),
     }
 }

@@ -1,9 +1,10 @@
 // What a field's text may be, and how it is taken.
 ghost use Rattle.std.specs.Prelude.{◌≡◌, IfSome, IsUtf8, Some, true, false};
 ghost use Rattle.sprintf.specs.Field.{number_of};
-ghost use Rattle.columns.specs.Inner.Serves.{Serves, IsGreatest, IsGreatestSigned, IsStop};
+ghost use Rattle.columns.specs.Inner.Serves.{conversion_of, Serves, IsFilledByZeros, IsGreatest, IsGreatestSigned, IsStop};
 ghost use Rattle.columns.specs.Inner.Shapes.{IsTaken};
 
+use crate::hexadecimal::{Form, Notation, bounds_of, prefix_len, take_bits};
 use crate::integer::take_integer;
 use crate::number::{take_filled, take_natural};
 use crate::word::{LONGEST, take_word};
@@ -21,6 +22,8 @@ pub(crate) enum Take {
     Filled { greatest: u64, width: usize },
     /// A number of at most this, or a negative one of at least its complement, with `+` in front where that is printed.
     Integer { greatest: u64, plus: bool },
+    /// A number by its bits.
+    Bits(Form),
     /// A word without this byte, which is ASCII: the stop character, else a line feed.
     Word { stop: u8 },
 }
@@ -124,6 +127,37 @@ fn decimal_take(field: &RowField, kind: Kind) -> Option<Take>
     })
 }
 
+// Whether the field has no room to fill, or zeros fill it.
+fn is_filled_by_zeros(field: &ConversionSpecifier, width: usize) -> bool
+    ensures { result ≡ true → IsFilledByZeros field.now width }
+{
+    if width == 0 {
+        return true;
+    }
+    is_filled(field)
+}
+
+// How the fields of a conversion are taken that tells the bits of numbers.
+fn bits_take(field: &RowField, kind: Kind, notation: Notation) -> Option<Take>
+    requires { field.now.field.conversion_type ≡ conversion_of notation }
+    ensures { IfSome result (λ take. Serves field.now.field kind field.now.after take) }
+{
+    numeral_of_value();
+    let spec = field.field();
+    let width = number_in(spec.width)?;
+    if !is_filled_by_zeros(spec, width) {
+        return None;
+    }
+    let (greatest, middle) = bounds_of(kind)?;
+    Some(Take::Bits(Form {
+        notation,
+        prefix: spec.alt_form,
+        width: width.saturating_sub(prefix_len(notation, spec.alt_form)),
+        greatest,
+        middle,
+    }))
+}
+
 // The byte in front of which a word ends, if that is ASCII.
 fn stop_of(after: &str) -> Option<u8>
     ensures { IfSome result (IsStop after.now) }
@@ -167,6 +201,9 @@ impl Take {
                     decimal_take(field, kind)
                 }
             }
+            ConversionType::OctInt => bits_take(field, kind, Notation::Octal),
+            ConversionType::HexIntLower => bits_take(field, kind, Notation::Lower),
+            ConversionType::HexIntUpper => bits_take(field, kind, Notation::Upper),
             ConversionType::String => word_take(field, kind),
             _ => None,
         }
@@ -182,6 +219,7 @@ impl Take {
             Take::Natural { greatest } => take_natural(text, greatest),
             Take::Filled { greatest, width } => take_filled(text, greatest, width),
             Take::Integer { greatest, plus } => take_integer(text, greatest, plus),
+            Take::Bits(form) => take_bits(text, form),
             Take::Word { stop } => take_word(text, stop),
         }
     }

@@ -26,6 +26,21 @@ const ROWS: &str = "\
     i32\t%+d\t+7\t+7=7\n\
     i64\t%d\t-9223372036854775808\t-9223372036854775808=9223372036854775808\n\
     i64\t%d\t9223372036854775808\tno\n\
+    u32\t%08x.\t0000beef.\t0000beef=48879\n\
+    u32\t%08x.\tbeef.\tno\n\
+    u32\t%08x.\t0000BEEF.\tno\n\
+    u32\t%X\tBEEF\tBEEF=48879\n\
+    u32\t%x\t0beef\tno\n\
+    u32\t%x\t100000000\tno\n\
+    u64\t%016X\tFFFFFFFFFFFFFFFF\tFFFFFFFFFFFFFFFF=18446744073709551615\n\
+    u64\t%x\t10000000000000000\tno\n\
+    i8\t%x\tfe\tfe=18446744073709551614\n\
+    i8\t%02x\t7f\t7f=127\n\
+    i32\t%08x\t80000000\t80000000=18446744071562067968\n\
+    u8\t%#04x\t0x0f\t0x0f=15\n\
+    u16\t%o\t177777\t177777=65535\n\
+    u16\t%o\t18\tno\n\
+    u8\t%4x\t  ff\tnone\n\
     char\t%c\ta\tnone\n\
     u8\t%-4d\t7   \tnone\n\
 ";

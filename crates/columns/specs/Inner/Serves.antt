@@ -1,8 +1,10 @@
 -- Which way of taking serves a field.
-use Rattle.std.specs.Prelude.{◌≡◌, ◌<◌, ℕ, List, Some, false}
+use Rattle.std.specs.Prelude.{◌≡◌, ◌⊎◌, ◌<◌, ℕ, List, Some, true, false}
 use Rattle.std.specs.Str.{chars}
 use Rattle.scan_fmt.specs.Directives.{first, is_blank}
 use Rattle.sprintf.specs.declared.parser.ConversionSpecifier.{ConversionSpecifier}
+use Rattle.sprintf.specs.declared.parser.ConversionType.{ConversionType}
+use Rattle.sprintf.specs.declared.parser.ConversionType.TheVariants.{OctInt, HexIntLower, HexIntUpper}
 use Rattle.values.specs.declared.kind.Kind.{Kind}
 use Rattle.values.specs.declared.kind.Kind.TheVariants.{U8, U16, U32, U64, Usize, I8, I16, I32, I64, Isize}
 use Rattle.row_format.specs.Columns.{field_text}
@@ -10,6 +12,8 @@ use Rattle.row_format.specs.Fit.{IsFit}
 use Rattle.columns.specs.Inner.Shapes.{Shape}
 use Rattle.columns.specs.Fields.{token_text}
 use Rattle.tokens.specs.Tokens.{datum_at}
+use Rattle.columns.specs.declared.hexadecimal.Notation.{Notation}
+use Rattle.columns.specs.declared.hexadecimal.Notation.TheVariants.{Octal, Lower, Upper}
 use Rattle.columns.specs.declared.take.Take.{Take}
 use Rattle.tokens.specs.declared.Token.{Token}
 
@@ -39,6 +43,30 @@ IsGreatestSigned I32 n = n ≡ 2147483647
 IsGreatestSigned I64 n = n ≡ 9223372036854775807
 IsGreatestSigned Isize n = n ≡ 9223372036854775807
 IsGreatestSigned _ n = ⊥
+
+-- The numbers are the greatest whose bits a kind's numbers have, and the greatest of these that is not negative.
+abbrev pub AreBounds : Kind → ℕ → ℕ → Type 0
+AreBounds U8 greatest middle = (greatest ≡ 255) × (middle ≡ 255)
+AreBounds U16 greatest middle = (greatest ≡ 65535) × (middle ≡ 65535)
+AreBounds U32 greatest middle = (greatest ≡ 4294967295) × (middle ≡ 4294967295)
+AreBounds U64 greatest middle = (greatest ≡ 18446744073709551615) × (middle ≡ 18446744073709551615)
+AreBounds Usize greatest middle = (greatest ≡ 18446744073709551615) × (middle ≡ 18446744073709551615)
+AreBounds I8 greatest middle = (greatest ≡ 255) × (middle ≡ 127)
+AreBounds I16 greatest middle = (greatest ≡ 65535) × (middle ≡ 32767)
+AreBounds I32 greatest middle = (greatest ≡ 4294967295) × (middle ≡ 2147483647)
+AreBounds I64 greatest middle = (greatest ≡ 18446744073709551615) × (middle ≡ 9223372036854775807)
+AreBounds Isize greatest middle = (greatest ≡ 18446744073709551615) × (middle ≡ 9223372036854775807)
+AreBounds _ greatest middle = ⊥
+
+-- The conversion that prints numbers in the notation.
+abbrev pub conversion_of : Notation → ConversionType
+conversion_of Octal = OctInt
+conversion_of Lower = HexIntLower
+conversion_of Upper = HexIntUpper
+
+-- The field has no room to fill, or zeros fill it.
+abbrev pub IsFilledByZeros : ConversionSpecifier → ℕ → Type 0
+IsFilledByZeros field width = (width ≡ 0) ⊎ ((field.zero_pad ≡ true) × (field.left_adj ≡ false))
 
 -- In front of the literal text no character but white space and this one ends a word.
 pub record IsStop (after : List ℕ) (stop : ℕ) : Type 0 where

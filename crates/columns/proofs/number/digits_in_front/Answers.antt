@@ -1,6 +1,6 @@
 use Rattle.std.proofs.Common.{◌≤◌, ◌+◌, ◌*◌, take, get_or, ap, arith}
 use Rattle.std.proofs.lemmas.List.{length-take}
-use Rattle.columns.proofs.Digits.{digits_more, short_number}
+use Rattle.columns.proofs.Digits.{decimal_more, short_number}
 use Rattle.columns.proofs.number.digits_in_front.Goals as goal
 
 pub overflow_mul-number : goal.overflow_mul-number
@@ -16,7 +16,7 @@ overflow_add-number c =
 pub digits-preserved : goal.digits-preserved
 digits-preserved c = record {
   counted = omega (arith, c.digits.invariant.counted);
-  digits = digits_more (take c.min.result c.args.text.now) c.digits.count c.digits.number (get_or (take c.min.result c.args.text.now) c.digits.byte-index 0) _ (omega (arith, c.digits.invariant.counted, c.digits-test.true)) c.digits.invariant.digits
+  digits = decimal_more (take c.min.result c.args.text.now) c.digits.count c.digits.number (get_or (take c.min.result c.args.text.now) c.digits.byte-index 0) _ (omega (arith, c.digits.invariant.counted, c.digits-test.true)) c.digits.invariant.digits
       (ap (λ i. get_or (take c.min.result c.args.text.now) i 0) c.digits.invariant.counted)
       (omega (arith, c.if-not-is_ascii_digit.ensures.cases)) (omega (arith, c.if-not-is_ascii_digit.ensures.cases))
       (ap (λ x. c.digits.number * 10 + x) c.from.ensures);

@@ -1,4 +1,4 @@
-use Rattle.std.proofs.Common.{◌≡◌, take}
+use Rattle.std.proofs.Common.{◌≡◌, take, false}
 use Rattle.columns.specs.Inner.Shapes.{AreDigits}
 use Rattle.columns.proofs.number.digits_in_front.Given as goal
 
@@ -6,5 +6,5 @@ use Rattle.columns.proofs.number.digits_in_front.Given as goal
 abbrev pub invariant-digits : goal.invariant-digits
 invariant-digits l = record {
   counted : l.count ≡ l.byte-index;
-  digits : AreDigits (take l.count l.front) l.number;
+  digits : AreDigits 10 false (take l.count l.front) l.number;
 }

@@ -1,4 +1,4 @@
-use Rattle.std.proofs.Common.{◌≡◌, ◌<◌, length, get_or, ap, subst, sym, arith}
+use Rattle.std.proofs.Common.{◌≡◌, get_or, subst, sym, arith}
 use Rattle.columns.specs.Inner.Shapes.{IsWordByte}
 use Rattle.columns.proofs.Words.{bytes_more}
 use Rattle.columns.proofs.word.word_len.Goals as goal
