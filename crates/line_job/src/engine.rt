@@ -151,7 +151,10 @@ pub fn run_job<J: LineJob, S: Source, K: Sink>(
     limit: u64,
 ) -> Result<u64, Stop<J::Why>>
     requires { J.IsSound job.old }
-    ensures { Runs J.rules (J.stage job.old) limit (source_seen S.supply input.old input.new) (sink_seen K.held K.faults output.old output.new) result }
+    ensures runs { Runs J.rules (J.stage job.old) limit (source_seen S.supply input.old input.new) (sink_seen K.held K.faults output.old output.new) result }
+
+    // Success: the job stands at the stage to which the lines of the input lead.
+    ensures stands { OnOk result (IfSome (S.supply.rest input.old) (λ bytes. (text : List ℕ) × AreKept J.rules 0 (J.stage job.old) (lines_of bytes) text (J.stage job.new))) }
 {
     let mut reader = Reader::new(alloc, input, limit);
     let answer = run_lines(alloc, job, &mut reader, output);
