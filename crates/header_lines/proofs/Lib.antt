@@ -2,3 +2,4 @@ pub mod Decimals
 pub mod ClearHeaders
 pub mod KindWords
 pub mod MessageLemmas
+pub mod NameLemmas
