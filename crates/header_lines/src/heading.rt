@@ -99,8 +99,8 @@ pub fn read_heading(
     number: u64,
     line: &str,
 ) -> Result<Headed, Refusal<LineCause>>
-    ensures kept { IfOk result (λ headed. KeepsHeading (heading_of heading.entry) line.now (headed_of headed)) }
-    ensures refused { IfRefused result (RefusesHeading (heading_of heading.entry) number line.now) }
+    ensures kept { IfOk result (λ headed. KeepsHeading (heading_of heading) line.now (headed_of headed)) }
+    ensures refused { IfRefused result (RefusesHeading (heading_of heading) number line.now) }
 {
     match heading {
         Heading::First => read_first(alloc, number, line),
