@@ -1,4 +1,6 @@
 pub mod Decimals
 pub mod ClearHeaders
+pub mod ClearHeadings
 pub mod KindWords
 pub mod MessageLemmas
+pub mod NameLemmas

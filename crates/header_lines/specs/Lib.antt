@@ -1,4 +1,5 @@
 pub mod Headers
+pub mod Heading
 pub mod Read
 pub mod Message
 pub mod Laws

@@ -1,5 +1,5 @@
 // The header lines, each by the number of its line.
-ghost use Rattle.std.specs.Prelude.{◌≡◌, ◌≢◌, ◌∷◌, [], ℕ, List, IfOk, OnOk, IfErr, MatchOption};
+ghost use Rattle.std.specs.Prelude.{◌≡◌, ◌≢◌, ◌∷◌, [], ℕ, List, IfOk, OnOk, IfErr, MatchOption, map};
 ghost use Rattle.sprintf.specs.Grammar.{IsFormat, IsNoFormat};
 ghost use Rattle.sprintf.specs.declared.parser.FormatElement.{FormatElement};
 ghost use Rattle.whiteread.specs.Words.{words};
@@ -7,6 +7,7 @@ ghost use Rattle.line_job.specs.Refusal.{IfRefused};
 ghost use Rattle.line_job.specs.declared.job.Refusal.TheVariants.{NoMemory};
 ghost use Rattle.header_lines.specs.Headers.{IsKindsLine, RefusesKinds, RefusesFormatLine, IsDialectLine, RefusesDialect, IsTemplateLine, RefusesTemplateLine};
 ghost use Rattle.header_lines.specs.Read.{IsReadFormat};
+ghost use Rattle.values.specs.Datum.{word_text};
 
 use crate::LineCause;
 use bumpalo::Bump;
@@ -16,7 +17,7 @@ use row_plan::{PlanError, RowPlan, plan};
 use sprintf::PrintfError;
 use sprintf::parser::{FormatElement, parse_format_string};
 use std::alloc::Global;
-use values::{Kind, KindsError, parse_kinds};
+use values::{Kind, KindsError, Word, parse_kinds};
 use whiteread::stream::SplitAsciiWhitespace;
 
 /// Reads a kinds line.
@@ -70,7 +71,7 @@ pub fn read_format(
 }
 
 // The one word of the line, where it has one word.
-fn one_word(line: &str) -> Option<&str>
+pub(crate) fn one_word(line: &str) -> Option<&str>
     ensures { MatchOption result ((word : List ℕ) → words line.now ≢ word ∷ []) (λ word. words line.now ≡ word.now ∷ []) }
 {
     let mut rest = SplitAsciiWhitespace::new(line);
@@ -103,20 +104,21 @@ pub fn read_dialect(number: u64, line: &str) -> Result<Dialect, Refusal<LineCaus
     }
 }
 
-/// Reads a template line in a dialect. The text of the line is kept among the texts, from which the printer lends.
+/// Reads a template line in a dialect, in which the first values have these names. The text of the line is kept among the texts, from which the printer lends.
 pub fn read_template<'t>(
     alloc: Global,
     texts: &'t Bump,
     number: u64,
     dialect: Dialect,
+    names: &[Word],
     line: &str,
 ) -> Result<Printer<'t>, Refusal<LineCause>>
-    ensures ok { IfOk result (λ p. p ≡ record { dialect = dialect; template = line.now; names = [] }) }
+    ensures ok { IfOk result (λ p. p ≡ record { dialect = dialect; template = line.now; names = map word_text names.now }) }
     ensures template { OnOk result (IsTemplateLine dialect line.now) }
     ensures refused { IfRefused result (RefusesTemplateLine number dialect line.now) }
 {
     let text = texts.try_alloc_str(line)?;
-    match Printer::new(alloc, dialect, text) {
+    match Printer::new_named(alloc, dialect, text, names) {
         Ok(printer) => Ok(printer),
         Err(PrinterError::Template(why)) => {
             Err(Refusal::Line(LineCause::Template { line: number, why }))
