@@ -60,9 +60,9 @@ must_end : (limit : ℕ) (input : Seen SourceState) (output : Seen SinkState) (a
     → IfSome input.before.rest (λ bytes. (text : List ℕ) → IsRewritten bytes text → length bytes ≤ limit → ¬ CountsReadFault input → ¬ CountsWriteFault output → IsOk answer ⊎ IsErrOf answer NoMemory)
 must_end limit input output answer runs = maps input.before.rest _ _ (λ bytes here text r le a b. here text (rewritten_is_kept (lines_of bytes) text r) le a b) runs.complete
 
-pub rewrites : (limit : ℕ) (input : Seen SourceState) (output : Seen SinkState) (lines : ℕ) (last : Stage) → Runs rewrite_rules (heading_next first_next) limit input output (Ok lines)
+rewrites_rows : (limit : ℕ) (input : Seen SourceState) (output : Seen SinkState) (lines : ℕ) (last : Stage) → Runs rewrite_rules (heading_next first_next) limit input output (Ok lines)
     → IfSome input.before.rest (λ bytes. (text : List ℕ) × AreKept rewrite_rules 0 (heading_next first_next) (lines_of bytes) text last) → Reformats limit input output (Ok (lines - number_in (version_of last) 4))
-rewrites limit input output lines last runs stands = record {
+rewrites_rows limit input output lines last runs stands = record {
   answer = Ok lines;
   runs = runs;
   result_is = (version_of last, refl);
@@ -71,8 +71,14 @@ rewrites limit input output lines last runs stands = record {
   complete = any_is input.before.rest _ (λ bytes text r le a b. inl refl);
 }
 
-pub refuses : (limit : ℕ) (input : Seen SourceState) (output : Seen SinkState) (stop : Stop LineCause) → Runs rewrite_rules (heading_next first_next) limit input output (Err stop) → Reformats limit input output (Err (error_of stop))
-refuses limit input output stop runs = record {
+pub rewrites : (limit : ℕ) (input : Seen SourceState) (output : Seen SinkState) (lines rows : ℕ) (start last : Stage) → start ≡ heading_next first_next → Runs rewrite_rules start limit input output (Ok lines)
+    → IfSome input.before.rest (λ bytes. (text : List ℕ) × AreKept rewrite_rules 0 start (lines_of bytes) text last) → rows ≡ lines - number_in (version_of last) 4 → Reformats limit input output (Ok rows)
+rewrites limit input output lines rows start last first runs stands count = subst (λ (n : ℕ). Reformats limit input output (Ok n)) (sym count)
+(rewrites_rows limit input output lines last (subst (λ (s : Stage). Runs rewrite_rules s limit input output (Ok lines)) first runs)
+    (subst (λ (s : Stage). IfSome input.before.rest (λ bytes. (text : List ℕ) × AreKept rewrite_rules 0 s (lines_of bytes) text last)) first stands))
+
+refuses_by : (limit : ℕ) (input : Seen SourceState) (output : Seen SinkState) (stop : Stop LineCause) → Runs rewrite_rules (heading_next first_next) limit input output (Err stop) → Reformats limit input output (Err (error_of stop))
+refuses_by limit input output stop runs = record {
   answer = Err stop;
   runs = runs;
   result_is = refl;
@@ -83,6 +89,11 @@ refuses limit input output stop runs = record {
     | inr none ↦ inr (memory stop none)
   ]) (must_end limit input output (Err stop) runs);
 }
+
+pub refuses : (limit : ℕ) (input : Seen SourceState) (output : Seen SinkState) (stop : Stop LineCause) (why : ReformatError) (start : Stage) → start ≡ heading_next first_next → Runs rewrite_rules start limit input output (Err stop)
+    → why ≡ error_of stop → Reformats limit input output (Err why)
+refuses limit input output stop why start first runs is = subst (λ (e : ReformatError). Reformats limit input output (Err e)) (sym is)
+(refuses_by limit input output stop (subst (λ (s : Stage). Runs rewrite_rules s limit input output (Err stop)) first runs))
 
 -- statuses
 
