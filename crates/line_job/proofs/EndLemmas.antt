@@ -1,9 +1,9 @@
 -- Lemmas on told bytes, on fronts, and on results.
-use Rattle.std.proofs.Common.{◌≡◌, ◌+◌, ◌≤◌, ◌++◌, ℕ, List, [], ◌∷◌, length, take, sym, ◌∙◌, ap, subst, refl, inl, inr, arith, length-append, append_assoc, append-nil, Option, Some, None, Result, Ok, Err, OnOk, IfOk, IfErr, IfSome, IsErrOf}
+use Rattle.std.proofs.Common.{◌≡◌, ◌+◌, ◌≤◌, ◌++◌, ℕ, List, [], length, take, sym, ◌∙◌, ap, subst, inl, inr, arith, length-append, append_assoc, append-nil, Option, Some, None, Result, Ok, Err, OnOk, IfOk, IfErr, IfSome, IsErrOf}
 use Rattle.std.proofs.Math.Seq.{take-append-add}
-use Rattle.std.proofs.lemmas.List.{take_all, take-append-le}
+use Rattle.std.proofs.lemmas.List.{take-append-le}
 use Rattle.std.specs.Io.KnownBytes.{Appends, Consumes, IsAtEnd}
-use Rattle.std.proofs.KnownBytes.{Appends-trans, Appends-nil}
+use Rattle.std.proofs.KnownBytes.{Appends-trans}
 use Rattle.edge_io.specs.Ends.{AppendsFront}
 use Rattle.whiteread.specs.Lines.{HasNoFeed, IsFirstLine}
 use Rattle.line_job.specs.declared.stop.Stop.{Stop}
@@ -14,6 +14,10 @@ use Rattle.line_job.specs.Stop.{IsOfLines}
 pub on_ok : {T E A B : Type 0} (r : Result T E) → (A → B) → OnOk r A → OnOk r B
 on_ok (Ok t) f h = f h
 on_ok (Err e) f h = tt
+
+pub always : {T E A : Type 0} (r : Result T E) → A → OnOk r A
+always (Ok t) h = h
+always (Err e) h = tt
 
 pub if_ok : {T E : Type 0} (r : Result T E) (P Q : T → Type 0) → ((t : T) → P t → Q t) → IfOk r P → IfOk r Q
 if_ok (Ok t) P Q f h = f t h

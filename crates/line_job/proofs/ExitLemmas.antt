@@ -1,21 +1,21 @@
 -- The clauses of a run where it ends.
-use Rattle.std.proofs.Common.{◌≡◌, ◌⊎◌, ◌+◌, ◌-◌, ◌<◌, ◌≤◌, ◌++◌, ℕ, Bool, true, List, [], ◌∷◌, length, sym, ◌∙◌, ap, subst, refl, inl, inr, arith, length-append, append-nil, Option, Result, Ok, Err, IfSome, IsErrOf}
+use Rattle.std.proofs.Common.{◌≡◌, ◌+◌, ◌-◌, ◌<◌, ◌≤◌, ◌++◌, ℕ, List, [], length, sym, ◌∙◌, ap, subst, refl, inl, inr, arith, length-append, Ok, Err, IfSome}
 use Rattle.std.specs.Io.KnownBytes.{Appends, Consumes, IsAtEnd}
 use Rattle.std.proofs.KnownBytes.{Appends-nil}
 use Rattle.edge_io.specs.Ends.{Rises, AppendsFront}
 use Rattle.whiteread.specs.Lines.{lines_of, without_feed}
 use Rattle.whiteread.specs.LineCall.{TakesLine, PassesLimit, probe_len}
-use Rattle.whiteread.specs.ReaderState.{reader_source, reader_limit, reader_taken, reader_waiting, ShowsSame}
+use Rattle.whiteread.specs.ReaderState.{reader_source, reader_limit, reader_taken, reader_waiting}
 use Rattle.whiteread.specs.declared.reader.Reader.{Reader}
 use Rattle.line_job.specs.declared.stop.Stop.{Stop}
-use Rattle.line_job.specs.declared.stop.Stop.TheVariants.{Line, NotUtf8, TooLong, ReadFault, WriteFault, NoMemory}
+use Rattle.line_job.specs.declared.stop.Stop.TheVariants.{Line, TooLong, ReadFault, WriteFault, NoMemory}
 use Rattle.line_job.specs.Stop.{IsOfLines}
-use Rattle.line_job.specs.Rules.{Rules, RefusesLine, AreKept, AreAllKept, AreRefused}
+use Rattle.line_job.specs.Rules.{Rules, RefusesLine, AreKept, AreRefused}
 use Rattle.line_job.specs.Reached.{reaches_end, ended_lines, reached_lines}
-use Rattle.line_job.specs.Inner.NextLine.{Took, Ended, Failed, Passed, Quiet, left_to_take}
+use Rattle.line_job.specs.Inner.NextLine.{Took, Ended, Failed, Passed, Quiet}
 use Rattle.line_job.specs.Inner.Goes.{Ends, View, place_of, view_of, left, GrewAll, Grew, GrewLines, GrewSome, GrewRefused, Goes}
 use Rattle.line_job.proofs.LineLemmas.{reached_first, reached_all, reaches_all, ended_none}
-use Rattle.line_job.proofs.EndLemmas.{refusal, no_refusal, line_is, waits_is, passes_is, none_is, any_is, grew_nil, some_front}
+use Rattle.line_job.proofs.EndLemmas.{no_refusal, line_is, waits_is, passes_is, none_is, any_is, grew_nil, some_front}
 use Rattle.line_job.proofs.GoesLemmas.{counts}
 
 -- a refusal of a line, or of the end: what differs is what was taken and refused

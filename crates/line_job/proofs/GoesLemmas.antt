@@ -1,19 +1,18 @@
 -- The clauses of a run: from those of what follows a line to those from that line on, and from those after a batch was written.
-use Rattle.std.proofs.Common.{◌≡◌, ◌⊎◌, ◌+◌, ◌-◌, ◌<◌, ◌≤◌, ◌++◌, ℕ, Bool, List, [], ◌∷◌, length, sym, ◌∙◌, ap, subst, refl, inl, inr, arith, length-append, append_assoc, append-nil, Option, Result, Ok, Err, OnOk, IfOk, IfErr, IfSome, IsErrOf}
+use Rattle.std.proofs.Common.{◌≡◌, ◌⊎◌, ◌+◌, ◌-◌, ◌<◌, ◌≤◌, ◌++◌, ℕ, Bool, List, [], ◌∷◌, length, sym, ◌∙◌, ap, subst, refl, inl, inr, arith, length-append, append_assoc, append-nil, Option, Result}
 use Rattle.std.specs.Io.KnownBytes.{Appends, IsAtEnd}
 use Rattle.std.proofs.KnownBytes.{Appends-trans, Consumes-trans}
-use Rattle.edge_io.specs.Ends.{Rises, AppendsFront}
+use Rattle.edge_io.specs.Ends.{Rises}
 use Rattle.edge_io.specs.Supply.{Supply}
 use Rattle.whiteread.specs.Lines.{lines_of, without_feed, IsFirstLine}
 use Rattle.whiteread.specs.LineCall.{TakesLine}
 use Rattle.whiteread.specs.ReaderState.{reader_source, reader_limit, reader_taken, reader_waiting, reader_line}
 use Rattle.whiteread.specs.declared.reader.Reader.{Reader}
 use Rattle.line_job.specs.declared.stop.Stop.{Stop}
-use Rattle.line_job.specs.declared.stop.Stop.TheVariants.{TooLong, ReadFault}
 use Rattle.line_job.specs.Rules.{Rules, KeepsLine, AreKept, AreAllKept, AreRefused}
 use Rattle.line_job.specs.Reached.{reaches_end, ended_lines, reached_lines}
 use Rattle.line_job.specs.Inner.NextLine.{IsOpen, Took}
-use Rattle.line_job.specs.Inner.Goes.{Ends, View, Place, place_of, view_of, left, GrewAll, Grew, GrewLines, GrewSome, GrewRefused, Goes}
+use Rattle.line_job.specs.Inner.Goes.{Ends, View, Place, place_of, view_of, left, GrewAll, Grew, GrewLines, GrewSome, GrewRefused, Goes, LeadsTo}
 use Rattle.line_job.proofs.LineLemmas.{lines_first, reached_first, reaches_more, ended_first, ended_unended, ended_nil, open_if_unended}
 use Rattle.line_job.proofs.EndLemmas.{on_ok, if_ok, if_err, moves, maps, front_after, grew_nil, grew_assoc, front_assoc}
 
@@ -195,6 +194,22 @@ goes_line {Stage = Stage} ends rules before stage next owed first old new source
           (λ bytes begun h. grew_lines rules before stage next owed (without_feed line) first held held' (reached_lines l1 bytes) (reached_lines l0 (line ++ bytes)) keeps (reached_first line bytes l0 l1 begun reach) h) (goes.after_no_memory e);
       more = λ e. took.more;
     }
+
+-- the lines from one on lead where those after it lead
+pub leads_line : {B K Stage Why : Type 0} (ends : Ends B K) (rules : Rules Stage Why) (before : ℕ) (stage next last : Stage) (first : List ℕ) (old new : Reader B) (line : List ℕ)
+    → Took ends.supply before old new line → KeepsLine rules stage (before + 1) (without_feed line) first next → LeadsTo ends rules (before + 1) next (view_of new) last → LeadsTo ends rules before stage (view_of old) last
+leads_line ends rules before stage next last first old new line took keeps leads =
+    let takes : TakesLine ends.supply old new line = took.takes in
+    moves (ends.supply.rest (reader_source old)) (ends.supply.rest (reader_source new)) (reader_waiting old) (reader_waiting new) line takes.got
+    (λ bytes. (text : List ℕ) × AreKept rules (before + 1) next (lines_of bytes) text last)
+    (λ bytes. (text : List ℕ) × AreKept rules before stage (lines_of bytes) text last)
+    takes.gave.bytes takes.cut takes.first takes.unended
+    (λ bytes begun h. (
+      first ++ h.0,
+      subst (λ (ls : List (List ℕ)). AreKept rules before stage ls (first ++ h.0) last) (sym (lines_first line bytes begun))
+          (one_more rules before stage next last (without_feed line) first h.0 (lines_of bytes) keeps h.1),
+    ))
+    leads
 
 -- what was owed was written
 pub goes_sent : {B K Stage Why : Type 0} (ends : Ends B K) (rules : Rules Stage Why) (before : ℕ) (stage : Stage) (owed : List ℕ) (old : View B) (source' : B) (output mid output' : K) (result : Result ℕ (Stop Why))

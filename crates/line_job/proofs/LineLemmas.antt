@@ -1,7 +1,6 @@
 -- Lemmas on lines: a first one, and what comes after it.
-use Rattle.std.proofs.Common.{subst, rules, ◌≡◌, ◌≢◌, ◌+◌, ◌<◌, ◌≤◌, ◌++◌, ◌⊎◌, ◌==◌, ◌||◌, ℕ, Bool, true, false, not, cond, if◌then◌else◌, nat_le, List, [], ◌∷◌, length, take, drop, get_or, ap, sym, ◌∙◌, arith, refl, suc, zero, inl, inr, ⊎_elim, append_assoc, append-nil, length-append}
+use Rattle.std.proofs.Common.{◌≡◌, ◌≢◌, ◌+◌, ◌<◌, ◌≤◌, ◌++◌, ◌⊎◌, ◌==◌, ◌||◌, ℕ, Bool, true, false, not, cond, if◌then◌else◌, nat_le, List, [], ◌∷◌, length, take, ap, sym, ◌∙◌, arith, refl, suc, zero, inl, inr, ⊎_elim, append_assoc, append-nil, length-append}
 use Rattle.std.specs.Str.{IsUtf8}
-use Rattle.std.proofs.lemmas.Str.{IsUtf8-append, IsUtf8-from_ascii}
 use Rattle.std.proofs.lemmas.Bool.{cases_order}
 use Rattle.std.proofs.lemmas.Bool.Decides.{nat_tests}
 use Rattle.std.proofs.lemmas.List.{take_all, take-append-le}

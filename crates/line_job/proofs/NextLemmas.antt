@@ -1,7 +1,6 @@
 -- What a reader's reading of a line says, as a run sees it.
-use Rattle.std.proofs.Common.{◌≡◌, ◌+◌, ◌<◌, ◌≤◌, ◌^◌, min, ℕ, Bool, true, false, List, length, sym, ◌∙◌, ap, subst, arith, length-append, Option, Ok, Err}
+use Rattle.std.proofs.Common.{◌≡◌, ◌+◌, ◌<◌, ◌≤◌, ◌^◌, min, ℕ, Bool, true, false, List, length, sym, ◌∙◌, ap, subst, arith, length-append, Ok, Err}
 use Rattle.edge_io.specs.Supply.{Supply}
-use Rattle.whiteread.specs.Lines.{HasNoFeed}
 use Rattle.whiteread.specs.Stream.{OneRises}
 use Rattle.whiteread.specs.LineCall.{LineCall, TakesLine}
 use Rattle.whiteread.specs.ReaderState.{reader_source, reader_limit, reader_taken, reader_waiting, reader_line, reader_faults}

@@ -1,9 +1,8 @@
 -- Clear rules give one answer.
 use Rattle.std.proofs.Common.{◌≡◌, ◌+◌, ◌++◌, ℕ, List, [], ◌∷◌, sym, ap, ◌∙◌, subst, inl, inr, Bool, true, false}
 use Rattle.std.proofs.lemmas.Bool.{false≢true}
-use Rattle.std.specs.Str.{IsUtf8}
 use Rattle.line_job.specs.declared.stop.Stop.{Stop}
-use Rattle.line_job.specs.declared.stop.Stop.TheVariants.{Line, NotUtf8}
+use Rattle.line_job.specs.declared.stop.Stop.TheVariants.{Line}
 use Rattle.line_job.specs.Rules.{Rules, KeepsLine, RefusesLine, AreKept, AreAllKept, AreRefused}
 use Rattle.line_job.specs.Laws.{AreClear, HasOneAnswer}
 

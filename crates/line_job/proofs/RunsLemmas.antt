@@ -1,21 +1,20 @@
 -- The clauses of a run, from those from its first line on.
-use Rattle.std.proofs.Common.{◌≡◌, ◌⊎◌, ◌+◌, ◌-◌, ◌<◌, ◌≤◌, ◌++◌, ℕ, Bool, true, List, [], sym, ◌∙◌, ap, subst, refl, inl, inr, length, arith, zero-add, Option, Result, Ok, Err, IfSome, IsErrOf}
+use Rattle.std.proofs.Common.{◌≡◌, ◌⊎◌, ◌+◌, ◌-◌, ◌<◌, ◌≤◌, ℕ, true, List, [], sym, ◌∙◌, ap, subst, refl, inl, inr, length, arith, zero-add, Option, Result, Ok, Err, IfSome, IsErrOf}
 use Rattle.std.proofs.lemmas.Bool.{false≢true}
-use Rattle.std.specs.Io.KnownBytes.{IsAtEnd}
 use Rattle.edge_io.specs.Supply.{Supply}
 use Rattle.whiteread.specs.Lines.{lines_of}
 use Rattle.line_job.specs.declared.stop.Stop.{Stop}
 use Rattle.line_job.specs.declared.stop.Stop.TheVariants.{Line, NotUtf8, TooLong, ReadFault, WriteFault, NoMemory}
 use Rattle.line_job.specs.Stop.{IsOfLines, StopsEarly}
 use Rattle.line_job.specs.Ends.{source_seen, sink_seen, Took}
-use Rattle.line_job.specs.Rules.{Rules, AreKept, AreAllKept, AreRefused}
+use Rattle.line_job.specs.Rules.{Rules, AreKept, AreRefused}
 use Rattle.line_job.specs.Laws.{AreClear}
 use Rattle.line_job.specs.Reached.{reaches_end, ended_lines, reached_lines}
 use Rattle.line_job.specs.Runs.{Runs, IsKept, IsRefused, Wrote}
-use Rattle.line_job.specs.Inner.Goes.{ends_of, View, first_place, Grew, GrewLines, GrewRefused, GrewSome, Goes}
+use Rattle.line_job.specs.Inner.Goes.{ends_of, View, first_place, GrewLines, GrewSome, Goes}
 use Rattle.line_job.proofs.LineLemmas.{reached_all, reached_ended, reaches_not}
 use Rattle.line_job.proofs.EndLemmas.{refusal, maps, any_is, both}
-use Rattle.line_job.proofs.OneAnswer.{kept_apart, refused_one, has_one_answer}
+use Rattle.line_job.proofs.OneAnswer.{kept_apart, refused_one}
 
 -- the view of a reader that has taken nothing
 abbrev pub first_view : {B : Type 0} → B → ℕ → View B

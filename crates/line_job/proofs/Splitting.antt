@@ -1,8 +1,8 @@
 -- Rows are independent.
-use Rattle.std.proofs.Common.{◌≡◌, ◌+◌, ◌++◌, ℕ, List, [], ◌∷◌, length, sym, ap, ◌∙◌, subst, refl, inl, inr, Bool, true, false, append_assoc, append-nil, arith}
+use Rattle.std.proofs.Common.{◌≡◌, ◌+◌, ◌++◌, ℕ, List, [], ◌∷◌, length, sym, ap, ◌∙◌, subst, refl, inl, inr, append_assoc, append-nil, arith}
 use Rattle.std.proofs.lemmas.Bool.{false≢true}
 use Rattle.line_job.specs.Rules.{Rules, KeepsLine, AreKept, AreAllKept}
-use Rattle.line_job.specs.Laws.{AreClear, IsOfRows, SplitsAt, Splits}
+use Rattle.line_job.specs.Laws.{AreClear, IsOfRows, Splits}
 use Rattle.line_job.proofs.OneAnswer.{kept_one}
 
 none_before : (before : ℕ) → 0 + before ≡ before

@@ -1,25 +1,26 @@
 -- The clauses of a run around a step of its loop.
-use Rattle.std.proofs.Common.{◌≡◌, ◌≢◌, ◌⊎◌, ◌+◌, ◌-◌, ◌<◌, ◌≤◌, ◌++◌, ℕ, Bool, true, false, List, [], ◌∷◌, length, sym, ◌∙◌, ap, subst, refl, inl, inr, arith, length-append, append-nil, Option, Result, Ok, Err}
+use Rattle.std.proofs.Common.{◌≡◌, ◌+◌, ◌-◌, ◌<◌, ◌≤◌, ◌++◌, ℕ, Bool, true, false, List, [], length, sym, ◌∙◌, ap, subst, refl, inl, inr, arith, length-append, append-nil, Option, Result, Ok, Err, OnOk}
 use Rattle.std.specs.Str.{IsUtf8}
 use Rattle.std.specs.Io.KnownBytes.{Appends}
-use Rattle.edge_io.specs.Ends.{Rises, AppendsFront}
+use Rattle.edge_io.specs.Ends.{AppendsFront}
 use Rattle.edge_io.specs.declared.ends.Failed.{Failed as SinkFailed}
 use Rattle.edge_io.specs.Supply.{Supply, Gave}
 use Rattle.edge_io.specs.Supply.Laws.{gave_none}
-use Rattle.whiteread.specs.Lines.{without_feed, HasNoFeed}
+use Rattle.whiteread.specs.Lines.{lines_of, without_feed, HasNoFeed}
 use Rattle.whiteread.specs.ReaderState.{reader_source, reader_limit, reader_taken, reader_waiting, reader_line, ShowsSame}
 use Rattle.whiteread.specs.declared.reader.Reader.{Reader}
 use Rattle.line_job.specs.declared.stop.Stop.{Stop}
 use Rattle.line_job.specs.declared.stop.Stop.TheVariants.{Line, NotUtf8, TooLong, ReadFault, WriteFault, NoMemory}
 use Rattle.line_job.specs.Stop.{IsOfLines}
-use Rattle.line_job.specs.Rules.{Rules}
+use Rattle.line_job.specs.Rules.{Rules, AreKept}
 use Rattle.line_job.specs.declared.reading.LineFault.{LineFault}
 use Rattle.line_job.specs.declared.reading.LineFault.TheVariants.{NotUtf8 as FaultUtf8}
 use Rattle.line_job.specs.Inner.NextLine.{Took, Failed, Passed, Quiet, NextLine}
-use Rattle.line_job.specs.Inner.Goes.{Ends, View, Place, place_of, view_of, left, Goes}
-use Rattle.line_job.specs.Inner.Step.{SentOr, IsUnsent, SentIfDue, Judged, LineStep, StepRefused, EndStep, SentBefore}
+use Rattle.line_job.specs.Inner.Goes.{Ends, View, Place, place_of, view_of, left, Goes, LeadsTo}
+use Rattle.line_job.specs.Inner.Step.{SentOr, SentIfDue, Judged, LineStep, StepRefused, EndStep, SentBefore}
 use Rattle.line_job.proofs.LineLemmas.{first_some, no_feed_front, utf8_whole}
-use Rattle.line_job.proofs.GoesLemmas.{counts, goes_line, goes_sent}
+use Rattle.line_job.proofs.EndLemmas.{none_is}
+use Rattle.line_job.proofs.GoesLemmas.{counts, goes_line, goes_sent, leads_line}
 use Rattle.line_job.proofs.ExitLemmas.{exit_end, exit_missing, exit_refused, exit_failed, exit_passed, exit_starved, exit_unsent, exit_end_unsent, quiet_ended, quiet_took}
 
 abbrev pub view : {B : Type 0} → B → List ℕ → ℕ → List ℕ → View B
@@ -206,3 +207,29 @@ left_falls supply before first old new line same took within =
     let cut : length (reader_waiting old) + length took.takes.got ≡ length line + length (reader_waiting new) =
     sym (length-append (reader_waiting old) took.takes.got) ∙ ap length took.takes.cut ∙ length-append line (reader_waiting new) in
     omega (arith, cut, took.takes.taken, took.limit, within, same.stays.taken, same.stays.limit, ap length same.stays.waiting, first_some line (reader_waiting new) took.takes.first)
+
+-- where the job stands
+
+-- nothing was taken
+pub leads_due : {B K Stage Why : Type 0} (ends : Ends B K) (rules : Rules Stage Why) (before : ℕ) (stage last : Stage) (old new : Reader B)
+    → ShowsSame old new → LeadsTo ends rules before stage (view_of new) last → LeadsTo ends rules before stage (view_of old) last
+leads_due {B = B} ends rules before stage last old new same leads = subst (λ (v : View B). LeadsTo ends rules before stage v last) (same_view old new same) leads
+
+-- a line was taken and kept
+pub leads_step : {B K Stage Why : Type 0} (ends : Ends B K) (rules : Rules Stage Why) (before : ℕ) (stage next last : Stage) (old new : Reader B) (batch batch' : List ℕ)
+    → LineStep ends.supply rules before old new stage next batch batch' (Ok true) → LeadsTo ends rules (before + 1) next (view_of new) last → LeadsTo ends rules before stage (view_of old) last
+leads_step ends rules before stage next last old new batch batch' (line, text, took, keeps, e, current) leads =
+    leads_line ends rules before stage next last text old new line took keeps leads
+
+-- no line is left
+pub leads_end : {B K Stage Why : Type 0} (ends : Ends B K) (rules : Rules Stage Why) (before : ℕ) (stage next : Stage) (old new : Reader B) (batch batch' : List ℕ)
+    → LineStep ends.supply rules before old new stage next batch batch' (Ok false) → LeadsTo ends rules before stage (view_of old) next
+leads_end ends rules before stage next old new batch batch' (ended, there, same) =
+    none_is (ends.supply.rest (reader_source old)) (ends.supply.rest (reader_source new)) (reader_waiting old) (λ bytes. (text : List ℕ) × AreKept rules before stage (lines_of bytes) text next)
+    ended.gave.bytes ended.none ended.end ([], (refl, there))
+
+-- a refusal stays one
+pub never_ok : {K Why : Type 0} (A : Type 0) (held : K → Option (List ℕ)) (faults : K → ℕ) (output output' : K) (batch : List ℕ) (stop : Stop Why) (result : Result ℕ (Stop Why))
+    → SentBefore held faults output output' batch (Err stop) result → OnOk result A
+never_ok {Why = Why} A held faults output output' batch stop result (inl (sent, still, is)) = subst (λ (r : Result ℕ (Stop Why)). OnOk r A) (sym is) tt
+never_ok {Why = Why} A held faults output output' batch stop result (inr (unsent, is)) = subst (λ (r : Result ℕ (Stop Why)). OnOk r A) (sym is) tt

@@ -1,11 +1,13 @@
 // The run of a job, from a source to a sink.
-ghost use Rattle.std.specs.Prelude.{◌≡◌, true, OnOk, string_bytes};
+ghost use Rattle.std.specs.Prelude.{◌≡◌, ℕ, List, true, OnOk, IfSome, string_bytes};
+ghost use Rattle.whiteread.specs.Lines.{lines_of};
 ghost use Rattle.whiteread.specs.ReaderState.{reader_source};
 ghost use Rattle.line_job.specs.Ends.{source_seen, sink_seen};
+ghost use Rattle.line_job.specs.Rules.{AreKept};
 ghost use Rattle.line_job.specs.Runs.{Runs};
 ghost use Rattle.line_job.specs.Told.{RunsTold};
 ghost use Rattle.line_job.specs.Inner.NextLine.{IsReady};
-ghost use Rattle.line_job.specs.Inner.Goes.{Goes, ends_of, view_of, first_place};
+ghost use Rattle.line_job.specs.Inner.Goes.{Goes, LeadsTo, ends_of, view_of, first_place};
 ghost use Rattle.line_job.specs.Inner.Step.{Judged, LineStep, EndStep, SentBefore, stop_of};
 
 use crate::batch::{send, send_if_due};
@@ -124,6 +126,7 @@ fn run_lines<J: LineJob, B: Source, K: Sink>(
     requires ready { IsReady B.supply 0 reader.old }
     requires sound { J.IsSound job.old }
     ensures goes { Goes (ends_of B.supply K.held K.faults) J.rules (first_place (J.stage job.old)) (view_of reader.old) (reader_source reader.new) output.old output.new result }
+    ensures stands { OnOk result (LeadsTo (ends_of B.supply K.held K.faults) J.rules 0 (J.stage job.old) (view_of reader.old) (J.stage job.new)) }
     ensures same_reference { B.supply.reference (reader_source reader.new) ≡ B.supply.reference (reader_source reader.old) }
 {
     let mut batch = String::new(alloc);

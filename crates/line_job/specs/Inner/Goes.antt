@@ -4,7 +4,7 @@ use Rattle.std.specs.Io.KnownBytes.{Appends, Consumes, IsAtEnd}
 use Rattle.edge_io.specs.Ends.{Rises, AppendsFront}
 use Rattle.edge_io.specs.Supply.{Supply}
 use Rattle.whiteread.specs.Lines.{lines_of}
-use Rattle.whiteread.specs.ReaderState.{reader_source, reader_limit, reader_taken, reader_waiting, reader_line}
+use Rattle.whiteread.specs.ReaderState.{reader_source, reader_waiting, reader_line}
 use Rattle.whiteread.specs.declared.reader.Reader.{Reader}
 use Rattle.line_job.specs.declared.stop.Stop.{Stop}
 use Rattle.line_job.specs.declared.stop.Stop.TheVariants.{TooLong, ReadFault, WriteFault, NoMemory}
@@ -76,6 +76,10 @@ GrewSome {Stage = Stage} rules place held held' limit bytes = (text : List ℕ)
 abbrev pub GrewRefused : {Stage Why : Type 0} → Rules Stage Why → Place Stage → Option (List ℕ) → Option (List ℕ) → Stop Why → ℕ → List ℕ → Type 0
 GrewRefused rules place held held' stop limit bytes = (text : List ℕ)
     × AreRefused rules (reaches_end limit bytes) place.before place.stage (reached_lines limit bytes) text stop × Appends held held' (place.owed ++ text)
+
+-- the lines that are still to come are kept, and lead the job from this place to that stage
+abbrev pub LeadsTo : {B K Stage Why : Type 0} → Ends B K → Rules Stage Why → ℕ → Stage → View B → Stage → Type 0
+LeadsTo ends rules before stage old last = Ahead ends old (λ bytes. (text : List ℕ) × AreKept rules before stage (lines_of bytes) text last)
 
 -- what a run does from the next line on
 pub record Goes {B K Stage Why : Type 0} (ends : Ends B K) (rules : Rules Stage Why) (place : Place Stage) (old : View B) (source' : B) (output output' : K) (result : Result ℕ (Stop Why)) : Type 0 where

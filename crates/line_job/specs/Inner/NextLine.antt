@@ -1,5 +1,5 @@
 -- What the reading of a line leaves, as a run sees it.
-use Rattle.std.specs.Prelude.{◌≡◌, ◌<◌, ◌≤◌, ◌+◌, ◌-◌, ℕ, List, [], length, Bool, true, false, Option, Result, Ok, Err, IsUtf8}
+use Rattle.std.specs.Prelude.{◌≡◌, ◌<◌, ◌≤◌, ◌+◌, ◌-◌, ℕ, List, [], length, Bool, true, false, Result, Ok, Err, IsUtf8}
 use Rattle.std.specs.Io.KnownBytes.{IsAtEnd}
 use Rattle.edge_io.specs.Ends.{Rises}
 use Rattle.edge_io.specs.Supply.{Supply, Gave}

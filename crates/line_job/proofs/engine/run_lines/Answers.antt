@@ -1,10 +1,11 @@
-use Rattle.std.proofs.Common.{◌≡◌, ◌∙◌, ◌+◌, ap, sym, subst, ℕ, Bool, [], true, false, Result, Ok, Err, rules, string_bytes}
+use Rattle.std.proofs.Common.{◌≡◌, ◌∙◌, ap, sym, subst, ℕ, Bool, true, false, Result, Ok, Err, rules, string_bytes}
 use Rattle.whiteread.specs.ReaderState.{reader_source}
 use Rattle.line_job.specs.declared.stop.Stop.{Stop}
 use Rattle.line_job.specs.declared.stop.Stop.TheVariants.{WriteFault}
-use Rattle.line_job.specs.Inner.Goes.{Goes, Ends, place_of, first_place, view_of, ends_of}
+use Rattle.line_job.specs.Inner.Goes.{Goes, LeadsTo, Ends, first_place, view_of, ends_of}
 use Rattle.line_job.specs.Inner.Step.{LineStep}
-use Rattle.line_job.proofs.StepLemmas.{goes_due, goes_undue, goes_step, goes_end, goes_stopped, left_falls}
+use Rattle.line_job.proofs.EndLemmas.{always}
+use Rattle.line_job.proofs.StepLemmas.{goes_due, goes_undue, goes_step, goes_end, goes_stopped, left_falls, leads_due, leads_step, leads_end, never_ok}
 use Rattle.line_job.proofs.engine.run_lines.Goals as goal
 
 pub returns-in_err-send_if_due-clause-goes : goal.returns-in_err-send_if_due-clause-goes
@@ -32,6 +33,9 @@ lines-preserved g c =
           c.in_ok-send_if_due.ensures.0 c.in_ok-send_if_due.ensures.1
           (goes_step ends g.J.LineJob.rules c.lines.lines (g.J.LineJob.stage c.lines.job) (g.J.LineJob.stage c.take_line.new.job) c.send_if_due.new.reader c.take_line.new.reader (string_bytes c.send_if_due.new.batch) (string_bytes c.take_line.new.batch) last c.send_if_due.new.output sunk answer
           c.take_line.new.reader.within step goes));
+      leads_on = λ last leads. c.lines.invariant.leads_on last
+          (leads_due ends g.J.LineJob.rules c.lines.lines (g.J.LineJob.stage c.lines.job) last c.lines.reader c.send_if_due.new.reader c.in_ok-send_if_due.ensures.0
+          (leads_step ends g.J.LineJob.rules c.lines.lines (g.J.LineJob.stage c.lines.job) (g.J.LineJob.stage c.take_line.new.job) last c.send_if_due.new.reader c.take_line.new.reader (string_bytes c.send_if_due.new.batch) (string_bytes c.take_line.new.batch) step leads));
       ready = step.2.ready;
       sound = c.in-Ok-true.ensures.sound;
       same_reference = c.in-Ok-true.ensures.same_reference ∙ ap g.B.Source.supply.reference c.in_ok-send_if_due.ensures.0.stays.source ∙ c.lines.invariant.same_reference;
@@ -56,3 +60,20 @@ returns-in-Err-clause-goes g c =
     c.in_ok-send_if_due.ensures.0 c.in_ok-send_if_due.ensures.1
     (goes_stopped ends g.J.LineJob.rules c.lines.lines (g.J.LineJob.stage c.lines.job) (g.J.LineJob.stage c.take_line.new.job) c.send_if_due.new.reader c.take_line.new.reader (string_bytes c.lines.batch) (string_bytes c.send_if_due.new.batch) (string_bytes c.take_line.new.batch) c.lines.output c.send_if_due.new.output c.send_before-in-Err.new.output c.in-Err.stop c.send_before-in-Err.result
     c.take_line.new.reader.within c.in_ok-send_if_due.ensures.1 c.in-Err.ensures.step c.send_before-in-Err.ensures))
+
+pub returns-in-Ok-false-clause-stands : goal.returns-in-Ok-false-clause-stands
+returns-in-Ok-false-clause-stands g c =
+    let ends : Ends g.row.B.Denot g.row.K.Denot = ends_of g.B.Source.supply g.K.Sink.held g.K.Sink.faults in
+    let step : LineStep g.B.Source.supply g.J.LineJob.rules c.lines.lines c.send_if_due.new.reader c.take_line.new.reader (g.J.LineJob.stage c.lines.job) (g.J.LineJob.stage c.take_line.new.job) (string_bytes c.send_if_due.new.batch) (string_bytes c.take_line.new.batch) (Ok false) =
+    subst (λ (b : Bool). LineStep g.B.Source.supply g.J.LineJob.rules c.lines.lines c.send_if_due.new.reader c.take_line.new.reader (g.J.LineJob.stage c.lines.job) (g.J.LineJob.stage c.take_line.new.job) (string_bytes c.send_if_due.new.batch) (string_bytes c.take_line.new.batch) (Ok b)) c.in-Ok-false.field-0-test c.in-Ok-false.ensures.step in
+    let leads : LeadsTo ends g.J.LineJob.rules 0 (g.J.LineJob.stage c.args.job.now) (view_of c.args.reader.now) (g.J.LineJob.stage c.take_line.new.job) =
+    c.lines.invariant.leads_on (g.J.LineJob.stage c.take_line.new.job)
+    (leads_due ends g.J.LineJob.rules c.lines.lines (g.J.LineJob.stage c.lines.job) (g.J.LineJob.stage c.take_line.new.job) c.lines.reader c.send_if_due.new.reader c.in_ok-send_if_due.ensures.0
+    (leads_end ends g.J.LineJob.rules c.lines.lines (g.J.LineJob.stage c.lines.job) (g.J.LineJob.stage c.take_line.new.job) c.send_if_due.new.reader c.take_line.new.reader (string_bytes c.send_if_due.new.batch) (string_bytes c.take_line.new.batch) step)) in
+    always c.send_before.result leads
+
+pub returns-in-Err-clause-stands : goal.returns-in-Err-clause-stands
+returns-in-Err-clause-stands g c =
+    let ends : Ends g.row.B.Denot g.row.K.Denot = ends_of g.B.Source.supply g.K.Sink.held g.K.Sink.faults in
+    never_ok (LeadsTo ends g.J.LineJob.rules 0 (g.J.LineJob.stage c.args.job.now) (view_of c.args.reader.now) (g.J.LineJob.stage c.take_line.new.job))
+    g.K.Sink.held g.K.Sink.faults c.send_if_due.new.output c.send_before-in-Err.new.output (string_bytes c.take_line.new.batch) c.in-Err.stop c.send_before-in-Err.result c.send_before-in-Err.ensures

@@ -1,5 +1,4 @@
-use Rattle.std.proofs.Common.{◌≡◌, ◌∙◌, ◌+◌, ap, sym, subst, Bool, true, false, not, string_bytes, ℕ, Ok, Err}
-use Rattle.whiteread.specs.Lines.{without_feed}
+use Rattle.std.proofs.Common.{◌≡◌, sym, subst, Bool, true, false, string_bytes, ℕ, Ok, Err}
 use Rattle.whiteread.specs.ReaderState.{reader_line}
 use Rattle.line_job.specs.declared.stop.Stop.TheVariants.{NotUtf8}
 use Rattle.line_job.specs.Inner.NextLine.{NextLine, Took}

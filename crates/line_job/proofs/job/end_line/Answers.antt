@@ -1,4 +1,4 @@
-use Rattle.std.proofs.Common.{◌≡◌, ◌++◌, List, ℕ, length, take, string_bytes, IsCharBoundary, sym, subst, rules, ◌∙◌, OnErr}
+use Rattle.std.proofs.Common.{◌≡◌, List, ℕ, string_bytes, IsCharBoundary, sym, subst, rules}
 use Rattle.std.proofs.lemmas.Str.{IsUtf8-string_bytes}
 use Rattle.line_job.proofs.GrownLemmas.{boundary_before}
 use Rattle.line_job.proofs.job.end_line.Goals as goal
