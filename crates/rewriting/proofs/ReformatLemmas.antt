@@ -1,5 +1,5 @@
 -- The clauses of the rewriting job, from those of a run by its rules.
-use Rattle.std.proofs.Common.{◌≡◌, ◌⊎◌, ◌+◌, ◌-◌, ◌≤◌, ℕ, List, [], ◌∷◌, length, sym, ap, ◌∙◌, subst, refl, inl, inr, arith, Option, Some, None, Result, Ok, Err, OnOk, IfSome, IsOk, IsErrOf}
+use Rattle.std.proofs.Common.{◌≡◌, ◌⊎◌, ◌+◌, ◌-◌, ◌≤◌, ℕ, List, ◌∷◌, length, sym, ap, ◌∙◌, subst, refl, inl, inr, arith, Option, Some, None, Result, Ok, Err, IfSome, IsOk, IsErrOf}
 use Rattle.std.specs.Io.KnownBytes.{IsAtEnd}
 use Rattle.whiteread.specs.Lines.{lines_of}
 use Rattle.line_job.specs.declared.stop.Stop.{Stop}

@@ -1,16 +1,13 @@
 -- A row of a plan is a row of the format that was planned.
 use Rattle.std.proofs.Common.{◌≡◌, ◌++◌, ℕ, List, [], ◌∷◌, map, sym, ap, ◌∙◌, subst, refl, inl, inr, append_assoc, Result, Ok, Err, OnOk}
-use Rattle.sprintf.specs.Grammar.{IsFormat}
-use Rattle.sprintf.specs.Printed.{printed}
 use Rattle.sprintf.specs.declared.PrintfError.{PrintfError}
-use Rattle.sprintf.specs.declared.parser.FormatElement.{FormatElement}
 use Rattle.values.specs.declared.kind.Kind.{Kind}
 use Rattle.values.specs.declared.value.Value.{Value}
-use Rattle.values.specs.Datum.{Datum, kind_of, datum_of, printf_meaning, each_of}
+use Rattle.values.specs.Datum.{Datum, kind_of, datum_of}
 use Rattle.row_format.specs.Columns.{Columns, columns_of, row_text}
 use Rattle.row_format.specs.Fit.{AreFit}
 use Rattle.row_format.specs.Laws.{PrintsColumns}
-use Rattle.row_format.specs.Plannable.{IsPlannable, IsUnpaired, Never}
+use Rattle.row_format.specs.Plannable.{IsUnpaired, Never}
 use Rattle.row_format.specs.Row.{IsRow as IsPlanRow}
 use Rattle.row_plan.specs.Plan.{IsRead}
 use Rattle.printer.specs.Prints.{Printing, Prints}

@@ -1,5 +1,5 @@
 -- The rules of the job that rewrites rows.
-use Rattle.std.specs.Prelude.{◌≡◌, ◌⊎◌, ℕ, List, [], ◌∷◌, ◌++◌, Bool, true, Err}
+use Rattle.std.specs.Prelude.{◌≡◌, ◌⊎◌, ℕ, List, [], ◌∷◌, ◌++◌, true, Err}
 use Rattle.whiteread.specs.Lines.{line_feed}
 use Rattle.values.specs.Datum.{Datum}
 use Rattle.line_job.specs.Rules.{Rules}

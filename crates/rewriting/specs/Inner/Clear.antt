@@ -2,7 +2,6 @@
 use Rattle.std.proofs.Common.{◌≡◌, ◌++◌, ℕ, List, [], ◌∷◌, sym, ap, ◌∙◌, subst, inl, inr, Result, Ok, Err}
 use Rattle.values.specs.Datum.{Datum}
 use Rattle.line_job.specs.Laws.{AreClear}
-use Rattle.printer.specs.declared.dialect.Dialect.{Dialect}
 use Rattle.printer.specs.declared.error.RenderFault.{RenderFault}
 use Rattle.printer.proofs.LawLemmas.{prints_once}
 use Rattle.header_lines.specs.declared.cause.LineCause.{LineCause}

@@ -1,11 +1,6 @@
-use Rattle.std.proofs.Common.{◌≡◌, ◌∙◌, List, ℕ, map, sym, subst, string_bytes, rules, Result, Ok, Err}
+use Rattle.std.proofs.Common.{◌∙◌, List, ℕ, string_bytes, Ok, Err}
 use Rattle.std.proofs.lemmas.Str.{IsUtf8-string_bytes}
 use Rattle.std.proofs.lemmas.Result.{err_from_is_err_and}
-use Rattle.values.specs.declared.value.Value.{Value}
-use Rattle.values.specs.Datum.{kind_of, datum_of}
-use Rattle.printer.specs.declared.error.RenderFault.{RenderFault}
-use Rattle.printer.specs.Prints.{Prints}
-use Rattle.line_job.specs.Grown.{IsGrown}
 use Rattle.rewriting.proofs.RowLemmas.{rewritten, unrendered, unread_if, on_ok, ended, printed_of}
 use Rattle.rewriting.proofs.rows.rewrite_row.Goals as goal
 
