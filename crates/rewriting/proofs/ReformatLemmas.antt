@@ -1,5 +1,5 @@
 -- The clauses of the rewriting job, from those of a run by its rules.
-use Rattle.std.proofs.Common.{◌≡◌, ◌⊎◌, ◌+◌, ◌-◌, ◌≤◌, ℕ, List, ◌∷◌, length, sym, ap, ◌∙◌, subst, refl, inl, inr, arith, Option, Some, None, Result, Ok, Err, IfSome, IsOk, IsErrOf}
+use Rattle.std.proofs.Common.{◌≡◌, ◌⊎◌, ◌-◌, ◌≤◌, ℕ, List, length, sym, ap, ◌∙◌, subst, refl, inl, inr, arith, Option, Some, None, Result, Ok, Err, IfSome, IsOk, IsErrOf}
 use Rattle.std.specs.Io.KnownBytes.{IsAtEnd}
 use Rattle.whiteread.specs.Lines.{lines_of}
 use Rattle.line_job.specs.declared.stop.Stop.{Stop}
@@ -14,7 +14,7 @@ use Rattle.rewriting.specs.declared.error.ReformatError.TheVariants.{NoMemory as
 use Rattle.header_lines.specs.Message.{cause_message}
 use Rattle.rewriting.specs.Error.{error_of}
 use Rattle.rewriting.specs.Rewritten.{IsRewritten, AreRewritten}
-use Rattle.rewriting.specs.Reformats.{Reformats, WritesAll, IsResultOf, Completes}
+use Rattle.rewriting.specs.Reformats.{Reformats, WritesAll, Completes}
 use Rattle.header_lines.specs.Heading.{first_next, number_in}
 use Rattle.rewriting.specs.Rules.{Stage, heading_next, rows_next, rewrite_rules}
 use Rattle.rewriting.specs.Inner.State.{version_of}
@@ -30,9 +30,9 @@ maps : (r0 : Option (List ℕ)) (P Q : List ℕ → Type 0) → ((bytes : List �
 maps None P Q f h = tt
 maps (Some xs) P Q f h = f xs h
 
-both : (r0 : Option (List ℕ)) (P Q R : List ℕ → Type 0) → ((bytes : List ℕ) → P bytes → Q bytes → R bytes) → IfSome r0 P → IfSome r0 Q → IfSome r0 R
-both None P Q R f p q = tt
-both (Some xs) P Q R f p q = f xs p q
+of_three : (r0 : Option (List ℕ)) (P Q R S : List ℕ → Type 0) → ((bytes : List ℕ) → P bytes → Q bytes → R bytes → S bytes) → IfSome r0 P → IfSome r0 Q → IfSome r0 R → IfSome r0 S
+of_three None P Q R S f p q r = tt
+of_three (Some xs) P Q R S f p q r = f xs p q r
 
 any_is : (r0 : Option (List ℕ)) (P : List ℕ → Type 0) → ((bytes : List ℕ) → P bytes) → IfSome r0 P
 any_is None P here = tt
@@ -67,14 +67,14 @@ rewrites_rows limit input output lines last runs stands = record {
   runs = runs;
   result_is = (version_of last, refl);
   rewritten = kept_writes input output runs.kept;
-  rows = both input.before.rest _ _ _ (λ bytes kept at. behind (lines_of bytes) kept.1.0 at.0.0 last lines kept.1.1 at.0.1 at.1) runs.kept (both input.before.rest _ _ _ (λ bytes at count. (at, count)) stands runs.lines);
+  rows = of_three input.before.rest _ _ _ _ (λ bytes kept at count. behind (lines_of bytes) kept.1.0 at.0 last lines kept.1.1 at.1 count) runs.kept stands runs.lines;
   complete = any_is input.before.rest _ (λ bytes text r le a b. inl refl);
 }
 
 pub rewrites : (limit : ℕ) (input : Seen SourceState) (output : Seen SinkState) (lines rows : ℕ) (start last : Stage) → start ≡ heading_next first_next → Runs rewrite_rules start limit input output (Ok lines)
     → IfSome input.before.rest (λ bytes. (text : List ℕ) × AreKept rewrite_rules 0 start (lines_of bytes) text last) → rows ≡ lines - number_in (version_of last) 4 → Reformats limit input output (Ok rows)
 rewrites limit input output lines rows start last first runs stands count = subst (λ (n : ℕ). Reformats limit input output (Ok n)) (sym count)
-(rewrites_rows limit input output lines last (subst (λ (s : Stage). Runs rewrite_rules s limit input output (Ok lines)) first runs)
+    (rewrites_rows limit input output lines last (subst (λ (s : Stage). Runs rewrite_rules s limit input output (Ok lines)) first runs)
     (subst (λ (s : Stage). IfSome input.before.rest (λ bytes. (text : List ℕ) × AreKept rewrite_rules 0 s (lines_of bytes) text last)) first stands))
 
 refuses_by : (limit : ℕ) (input : Seen SourceState) (output : Seen SinkState) (stop : Stop LineCause) → Runs rewrite_rules (heading_next first_next) limit input output (Err stop) → Reformats limit input output (Err (error_of stop))
@@ -93,7 +93,7 @@ refuses_by limit input output stop runs = record {
 pub refuses : (limit : ℕ) (input : Seen SourceState) (output : Seen SinkState) (stop : Stop LineCause) (why : ReformatError) (start : Stage) → start ≡ heading_next first_next → Runs rewrite_rules start limit input output (Err stop)
     → why ≡ error_of stop → Reformats limit input output (Err why)
 refuses limit input output stop why start first runs is = subst (λ (e : ReformatError). Reformats limit input output (Err e)) (sym is)
-(refuses_by limit input output stop (subst (λ (s : Stage). Runs rewrite_rules s limit input output (Err stop)) first runs))
+    (refuses_by limit input output stop (subst (λ (s : Stage). Runs rewrite_rules s limit input output (Err stop)) first runs))
 
 -- statuses
 

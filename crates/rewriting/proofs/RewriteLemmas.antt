@@ -1,14 +1,16 @@
 -- What the rules of the job make of whole inputs.
-use Rattle.std.proofs.Common.{◌≡◌, ◌+◌, ◌-◌, ◌++◌, ◌⊎◌, ℕ, List, [], ◌∷◌, length, All, refl, sym, ap, ◌∙◌, subst, inl, inr, true, false, arith, append_assoc, append-nil, length-append}
+use Rattle.std.proofs.Common.{◌≡◌, ◌+◌, ◌++◌, ℕ, List, [], ◌∷◌, length, All, refl, sym, ap, ◌∙◌, subst, inl, inr, arith, append_assoc, append-nil, length-append}
 use Rattle.std.specs.Str.{IsUtf8}
 use Rattle.std.specs.List.{AllByRecursion}
 use Rattle.std.proofs.lemmas.List.Elements.{recursion_from_All, All-from_recursion}
 use Rattle.whiteread.specs.Words.{words}
+use Rattle.values.specs.declared.kind.Kind.{Kind}
 use Rattle.line_job.specs.Rules.{AreKept, AreAllKept, KeepsLine}
 use Rattle.printer.specs.declared.dialect.Dialect.{Dialect}
 use Rattle.header_lines.specs.declared.heading.Version.{Version}
 use Rattle.header_lines.specs.declared.heading.Version.TheVariants.{First, Second}
-use Rattle.header_lines.specs.Heading.{Fields, AreHeading, Headed, first_next, kinds_next, names_next, more as another, format_next as to_format, KeepsHeading, number_in}
+use Rattle.header_lines.specs.Headers.{IsKindsLine, IsFormatLine, IsDialectLine, IsTemplateLine}
+use Rattle.header_lines.specs.Heading.{IsSecondVersion, Fields, AreHeading, Headed, first_next, kinds_next, names_next, more as another, format_next as to_format, KeepsHeading, number_in}
 use Rattle.rewriting.specs.Rewrite.{Layout}
 use Rattle.rewriting.specs.Rewritten.{IsTextOf, AreRewritten}
 use Rattle.rewriting.specs.Rules.{Stage, heading_next, format_next, dialect_next, template_next, rows_next, after, layout_of, Keeps, Ends, rewrite_rules}
@@ -67,25 +69,35 @@ record IsHeaded (lines : List (List ℕ)) (owed : List ℕ) (last : Stage) : Typ
   says : AreHeading heading fields
   kept : AreKept rewrite_rules before (format_next fields) rest owed last
 
-by_version : (line : List ℕ) (rest : List (List ℕ)) (owed tail : List ℕ) (last : Stage) (headed : Headed) → IsUtf8 line → KeepsHeading first_next line headed
-    → AreKept rewrite_rules 1 (after headed) rest owed last → Ends last tail → IsHeaded (line ∷ rest) owed last
-by_version line rest owed tail last headed utf8 (inl (second, is)) kept ends =
-    let k = led 1 (heading_next kinds_next) rest owed tail last ((λ tail ends. ends), (λ number line text next keeps. keeps.0)) (moved 1 (after headed) (heading_next kinds_next) rest owed last (ap after is) kept) ends in
-    let kinds = k.keeps.1.1.0 in
-    let to_names : k.next ≡ heading_next (names_next kinds) = k.keeps.1.2 ∙ ap after k.keeps.1.1.2 in
-    let n = led 2 (heading_next (names_next kinds)) k.rest owed tail last ((λ tail ends. ends), (λ number line text next keeps. keeps.0)) (moved 2 k.next (heading_next (names_next kinds)) k.rest owed last to_names k.kept) ends in
+-- the names behind the kinds of the second version
+names_led : (line kinds_line : List ℕ) (rest lines : List (List ℕ)) (owed : List ℕ) (last : Stage) (kinds : List Kind) → lines ≡ kinds_line ∷ rest → IsUtf8 line → IsUtf8 kinds_line → IsSecondVersion line → IsKindsLine kinds_line kinds
+    → IsLed 2 (heading_next (names_next kinds)) rest owed last → IsHeaded (line ∷ lines) owed last
+names_led line kinds_line rest lines owed last kinds lines_are utf8 also second of_kinds n =
     let fields : Fields = record { version = Second; kinds = kinds; names = words n.line } in
-    let to_rows : n.next ≡ format_next fields = n.keeps.1.2 ∙ ap after n.keeps.1.1.1 in
+    let to_format : n.next ≡ format_next fields = n.keeps.1.2 ∙ ap after n.keeps.1.1.1 in
     record {
-      heading = line ∷ k.line ∷ n.line ∷ [];
+      heading = line ∷ kinds_line ∷ n.line ∷ [];
       rest = n.rest;
       fields = fields;
       before = 3;
-      lines_are = ap (λ (ls : List (List ℕ)). line ∷ ls) (k.lines_are ∙ ap (λ (ls : List (List ℕ)). k.line ∷ ls) n.lines_are);
-      utf8 = (utf8, (k.utf8, (n.utf8, tt)));
-      says = inr (line, k.line, n.line, refl, second, k.keeps.1.1.1, n.keeps.1.1.0, refl, refl);
-      kept = moved 3 n.next (format_next fields) n.rest owed last to_rows n.kept;
+      lines_are = ap (λ (ls : List (List ℕ)). line ∷ ls) (lines_are ∙ ap (λ (ls : List (List ℕ)). kinds_line ∷ ls) n.lines_are);
+      utf8 = (utf8, (also, (n.utf8, tt)));
+      says = inr (line, kinds_line, n.line, refl, second, of_kinds, n.keeps.1.1.0, refl, refl);
+      kept = moved 3 n.next (format_next fields) n.rest owed last to_format n.kept;
     }
+
+-- the kinds of the second version
+kinds_led : (line : List ℕ) (lines : List (List ℕ)) (owed tail : List ℕ) (last : Stage) → IsUtf8 line → IsSecondVersion line → IsLed 1 (heading_next kinds_next) lines owed last → Ends last tail → IsHeaded (line ∷ lines) owed last
+kinds_led line lines owed tail last utf8 second k ends =
+    let kinds : List Kind = k.keeps.1.1.0 in
+    let to_names : k.next ≡ heading_next (names_next kinds) = k.keeps.1.2 ∙ ap after k.keeps.1.1.2 in
+    names_led line k.line k.rest lines owed last kinds k.lines_are utf8 k.utf8 second k.keeps.1.1.1
+    (led 2 (heading_next (names_next kinds)) k.rest owed tail last ((λ tail ends. ends), (λ number line text next keeps. keeps.0)) (moved 2 k.next (heading_next (names_next kinds)) k.rest owed last to_names k.kept) ends)
+
+by_version : (line : List ℕ) (rest : List (List ℕ)) (owed tail : List ℕ) (last : Stage) (headed : Headed) → IsUtf8 line → KeepsHeading first_next line headed
+    → AreKept rewrite_rules 1 (after headed) rest owed last → Ends last tail → IsHeaded (line ∷ rest) owed last
+by_version line rest owed tail last headed utf8 (inl (second, is)) kept ends = kinds_led line rest owed tail last utf8 second
+    (led 1 (heading_next kinds_next) rest owed tail last ((λ tail ends. ends), (λ number line text next keeps. keeps.0)) (moved 1 (after headed) (heading_next kinds_next) rest owed last (ap after is) kept) ends) ends
 by_version line rest owed tail last headed utf8 (inr (kinds, of_kinds, is)) kept ends =
     let fields : Fields = record { version = First; kinds = kinds; names = [] } in
     record {
@@ -99,11 +111,12 @@ by_version line rest owed tail last headed utf8 (inr (kinds, of_kinds, is)) kept
       kept = moved 1 (after headed) (format_next fields) rest owed last (ap after is) kept;
     }
 
+first_led : (lines : List (List ℕ)) (owed tail : List ℕ) (last : Stage) → IsLed 0 (heading_next first_next) lines owed last → Ends last tail → IsHeaded lines owed last
+first_led lines owed tail last f ends = subst (λ (ls : List (List ℕ)). IsHeaded ls owed last) (sym f.lines_are)
+    (by_version f.line f.rest owed tail last f.keeps.1.0 f.utf8 f.keeps.1.1 (moved 1 f.next (after f.keeps.1.0) f.rest owed last f.keeps.1.2 f.kept) ends)
+
 headed_of : (lines : List (List ℕ)) (owed tail : List ℕ) (last : Stage) → AreKept rewrite_rules 0 (heading_next first_next) lines owed last → Ends last tail → IsHeaded lines owed last
-headed_of lines owed tail last kept ends =
-    let f = led 0 (heading_next first_next) lines owed tail last ((λ tail ends. ends), (λ number line text next keeps. keeps.0)) kept ends in
-    let h = f.keeps.1 in
-    subst (λ (ls : List (List ℕ)). IsHeaded ls owed last) (sym f.lines_are) (by_version f.line f.rest owed tail last h.0 f.utf8 h.1 (moved 1 f.next (after h.0) f.rest owed last h.2 f.kept) ends)
+headed_of lines owed tail last kept ends = first_led lines owed tail last (led 0 (heading_next first_next) lines owed tail last ((λ tail ends. ends), (λ number line text next keeps. keeps.0)) kept ends) ends
 
 -- how many lines there are in front of the format
 
@@ -150,36 +163,83 @@ utf8_append : (front rest : List (List ℕ)) → AllByRecursion IsUtf8 front →
 utf8_append [] rest f r = r
 utf8_append (line ∷ front) rest f r = (f.0, utf8_append front rest f.1 r)
 
+-- the lines behind the heading: the format, a dialect, the template, and rows, to which they lead
+record AreBehind (fields : Fields) (lines : List (List ℕ)) (owed : List ℕ) (last : Stage) : Type 0 where
+  format : List ℕ
+  dialect_line : List ℕ
+  dialect : Dialect
+  template : List ℕ
+  rows : List (List ℕ)
+  lines_are : lines ≡ format ∷ dialect_line ∷ template ∷ rows
+  utf8 : AllByRecursion IsUtf8 (format ∷ dialect_line ∷ template ∷ rows)
+  of_format : IsFormatLine fields.kinds format
+  of_dialect : IsDialectLine dialect_line dialect
+  of_template : IsTemplateLine dialect template
+  text_of : IsTextOf (layout_of fields format dialect template) rows owed
+  leads : last ≡ rows_next (layout_of fields format dialect template)
+
+template_led : (before : ℕ) (fields : Fields) (lines more : List (List ℕ)) (format dialect_line : List ℕ) (dialect : Dialect) (owed : List ℕ) (last : Stage) → lines ≡ format ∷ dialect_line ∷ more → IsUtf8 format → IsUtf8 dialect_line
+    → IsFormatLine fields.kinds format → IsDialectLine dialect_line dialect → IsLed before (template_next fields format dialect) more owed last → AreBehind fields lines owed last
+template_led before fields lines more format dialect_line dialect owed last lines_are utf8 also of_format of_dialect t =
+    let layout : Layout = layout_of fields format dialect t.line in
+    let r = rows_kept (before + 1) layout t.rest owed last (moved (before + 1) t.next (rows_next layout) t.rest owed last t.keeps.2 t.kept) in
+    record {
+      format = format;
+      dialect_line = dialect_line;
+      dialect = dialect;
+      template = t.line;
+      rows = t.rest;
+      lines_are = lines_are ∙ ap (λ (ls : List (List ℕ)). format ∷ dialect_line ∷ ls) t.lines_are;
+      utf8 = (utf8, (also, (t.utf8, r.1)));
+      of_format = of_format;
+      of_dialect = of_dialect;
+      of_template = t.keeps.1;
+      text_of = r.0;
+      leads = r.2;
+    }
+
+dialect_led : (before : ℕ) (fields : Fields) (lines more : List (List ℕ)) (format owed tail : List ℕ) (last : Stage) → lines ≡ format ∷ more → IsUtf8 format → IsFormatLine fields.kinds format
+    → IsLed before (dialect_next fields format) more owed last → Ends last tail → AreBehind fields lines owed last
+dialect_led before fields lines more format owed tail last lines_are utf8 of_format d ends =
+    let dialect : Dialect = d.keeps.1.0 in
+    template_led (before + 1) fields lines d.rest format d.line dialect owed last (lines_are ∙ ap (λ (ls : List (List ℕ)). format ∷ ls) d.lines_are) utf8 d.utf8 of_format d.keeps.1.1
+    (led (before + 1) (template_next fields format dialect) d.rest owed tail last ((λ tail ends. ends), (λ number line text next keeps. keeps.0)) (moved (before + 1) d.next (template_next fields format dialect) d.rest owed last d.keeps.1.2 d.kept) ends)
+
+format_led : (before : ℕ) (fields : Fields) (lines : List (List ℕ)) (owed tail : List ℕ) (last : Stage) → IsLed before (format_next fields) lines owed last → Ends last tail → AreBehind fields lines owed last
+format_led before fields lines owed tail last f ends = dialect_led (before + 1) fields lines f.rest f.line owed tail last f.lines_are f.utf8 f.keeps.1
+    (led (before + 1) (dialect_next fields f.line) f.rest owed tail last ((λ tail ends. ends), (λ number line text next keeps. keeps.0)) (moved (before + 1) f.next (dialect_next fields f.line) f.rest owed last f.keeps.2 f.kept) ends) ends
+
+-- heading and the lines behind it are rewritten
+rewritten_of : (lines : List (List ℕ)) (text owed tail : List ℕ) (last : Stage) (h : IsHeaded lines owed last) → AreBehind h.fields h.rest owed last → Ends last tail → text ≡ owed ++ tail → (r : AreRewritten lines text) × (last ≡ rows_next r.layout)
+rewritten_of lines text owed tail last h b ends e =
+    let layout : Layout = layout_of h.fields b.format b.dialect b.template in
+    let behind : List (List ℕ) = b.format ∷ b.dialect_line ∷ b.template ∷ b.rows in
+    let none : tail ≡ [] = subst (λ (s : Stage). Ends s tail) b.leads ends in
+    let all : lines ≡ h.heading ++ behind = h.lines_are ∙ ap (λ (ls : List (List ℕ)). h.heading ++ ls) b.lines_are in
+    let same : owed ≡ text = sym (e ∙ ap (λ (x : List ℕ). owed ++ x) none ∙ append-nil owed) in (
+      record {
+        heading = h.heading;
+        dialect_line = b.dialect_line;
+        layout = layout;
+        rows = b.rows;
+        lines_are = all;
+        utf8 = subst (λ (ls : List (List ℕ)). All IsUtf8 ls) (sym all) (All-from_recursion _ (h.heading ++ behind) (utf8_append h.heading behind h.utf8 b.utf8));
+        fields = h.says;
+        format = b.of_format;
+        dialect = b.of_dialect;
+        template = b.of_template;
+        text_of = subst (λ (x : List ℕ). IsTextOf layout b.rows x) same b.text_of;
+      },
+      b.leads,
+    )
+
+headed_rewritten : (lines : List (List ℕ)) (text owed tail : List ℕ) (last : Stage) → IsHeaded lines owed last → Ends last tail → text ≡ owed ++ tail → (r : AreRewritten lines text) × (last ≡ rows_next r.layout)
+headed_rewritten lines text owed tail last h ends e =
+    rewritten_of lines text owed tail last h (format_led h.before h.fields h.rest owed tail last (led h.before (format_next h.fields) h.rest owed tail last ((λ tail ends. ends), (λ number line text next keeps. keeps.0)) h.kept ends) ends) ends e
+
 -- lines that are kept, and whose end is kept, are rewritten, and lead to the rows of their layout
 pub kept_is_rewritten : (lines : List (List ℕ)) (text : List ℕ) (kept : AreAllKept rewrite_rules 0 (heading_next first_next) lines text) → (r : AreRewritten lines text) × (kept.2 ≡ rows_next r.layout)
-kept_is_rewritten lines text (owed, tail, last, kept, ends, e) =
-    let h = headed_of lines owed tail last kept ends in
-    let f = led h.before (format_next h.fields) h.rest owed tail last ((λ tail ends. ends), (λ number line text next keeps. keeps.0)) h.kept ends in
-    let to_dialect = moved (h.before + 1) f.next (dialect_next h.fields f.line) f.rest owed last f.keeps.2 f.kept in
-    let d = led (h.before + 1) (dialect_next h.fields f.line) f.rest owed tail last ((λ tail ends. ends), (λ number line text next keeps. keeps.0)) to_dialect ends in
-    let dialect = d.keeps.1.0 in
-    let to_template = moved (h.before + 1 + 1) d.next (template_next h.fields f.line dialect) d.rest owed last d.keeps.1.2 d.kept in
-    let t = led (h.before + 1 + 1) (template_next h.fields f.line dialect) d.rest owed tail last ((λ tail ends. ends), (λ number line text next keeps. keeps.0)) to_template ends in
-    let layout : Layout = layout_of h.fields f.line dialect t.line in
-    let r = rows_kept (h.before + 1 + 1 + 1) layout t.rest owed last (moved (h.before + 1 + 1 + 1) t.next (rows_next layout) t.rest owed last t.keeps.2 t.kept) in
-    let none : tail ≡ [] = subst (λ (s : Stage). Ends s tail) r.2 ends in
-    let behind : List (List ℕ) = f.line ∷ d.line ∷ t.line ∷ t.rest in
-    let rest : h.rest ≡ behind = f.lines_are ∙ ap (λ (ls : List (List ℕ)). f.line ∷ ls) (d.lines_are ∙ ap (λ (ls : List (List ℕ)). d.line ∷ ls) t.lines_are) in
-    let all : lines ≡ h.heading ++ behind = h.lines_are ∙ ap (λ (ls : List (List ℕ)). h.heading ++ ls) rest in
-    let utf8 : AllByRecursion IsUtf8 (h.heading ++ behind) = utf8_append h.heading behind h.utf8 (f.utf8, (d.utf8, (t.utf8, r.1))) in
-    (record {
-      heading = h.heading;
-      dialect_line = d.line;
-      layout = layout;
-      rows = t.rest;
-      lines_are = all;
-      utf8 = subst (λ (ls : List (List ℕ)). All IsUtf8 ls) (sym all) (All-from_recursion _ (h.heading ++ behind) utf8);
-      fields = h.says;
-      format = f.keeps.1;
-      dialect = d.keeps.1.1;
-      template = t.keeps.1;
-      text_of = subst (λ (x : List ℕ). IsTextOf layout t.rest x) (sym (e ∙ ap (λ (x : List ℕ). owed ++ x) none ∙ append-nil owed)) r.0;
-    }, r.2)
+kept_is_rewritten lines text (owed, tail, last, kept, ends, e) = headed_rewritten lines text owed tail last (headed_of lines owed tail last kept ends) ends e
 
 -- rewritten lines are kept
 
@@ -193,8 +253,11 @@ puts : (before : ℕ) (stage next last : Stage) (line : List ℕ) (lines : List 
     → AreKept rewrite_rules before stage (line ∷ lines) owed last
 puts before stage next last line lines owed utf8 keeps kept = ([], owed, next, inl (refl, utf8, keeps), refl, kept)
 
+abbrev fields_with : Version → List Kind → List (List ℕ) → Fields
+fields_with version kinds names = record { version = version; kinds = kinds; names = names }
+
 same_fields : (a b : Fields) → a.version ≡ b.version → a.kinds ≡ b.kinds → a.names ≡ b.names → a ≡ b
-same_fields a b version kinds names = cc
+same_fields a b version kinds names = ap (λ (v : Version). fields_with v a.kinds a.names) version ∙ ap (λ (k : List Kind). fields_with b.version k a.names) kinds ∙ ap (fields_with b.version b.kinds) names
 
 utf8_of : (lines all : List (List ℕ)) → lines ≡ all → All IsUtf8 lines → AllByRecursion IsUtf8 all
 utf8_of lines all is utf8 = recursion_from_All _ all (subst (λ (ls : List (List ℕ)). All IsUtf8 ls) is utf8)

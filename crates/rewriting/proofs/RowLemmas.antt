@@ -20,8 +20,8 @@ use Rattle.header_lines.specs.declared.cause.LineCause.TheVariants.{Render}
 use Rattle.header_lines.proofs.ClearHeaders.{header_lines_are_clear}
 use Rattle.header_lines.specs.declared.heading.Version.{Version}
 use Rattle.rewriting.specs.declared.rows.Source.{Source}
-use Rattle.rewriting.specs.Rewrite.{IsRow, IsRowOf, Renders, IsRewrittenAs}
-use Rattle.rewriting.specs.Rules.{RefusesRow}
+use Rattle.rewriting.specs.Rewrite.{Layout, IsRow, IsRowOf, Renders, IsRewrittenAs}
+use Rattle.rewriting.specs.Rules.{rows_next, Keeps, RefusesRow}
 use Rattle.rewriting.specs.Inner.State.{layout_of, IsSoundSource, IsNoRow}
 
 abbrev row_is : List ℕ → Result (List ℕ) PrintfError
@@ -76,6 +76,11 @@ unread prints version source printing number row why sound none = inl ((λ value
 pub on_ok : {T E A B : Type 0} (r : Result T E) → (A → B) → OnOk r A → OnOk r B
 on_ok (Ok t) f h = f h
 on_ok (Err e) f h = tt
+
+-- what is owed for a row that is rewritten
+pub keeps_row : {E : Type 0} (result : Result Unit E) (layout : Layout) (number : ℕ) (row old new : List ℕ) → OnOk result ((line : List ℕ) × IsRewrittenAs layout row line × (new ≡ old ++ (line ++ 10 ∷ [])))
+    → OnOk result ((text : List ℕ) × Keeps (rows_next layout) number row text (rows_next layout) × (new ≡ old ++ text))
+keeps_row result layout number row old new kept = on_ok result (λ h. (h.0 ++ 10 ∷ [], ((h.0, h.1, refl), refl), h.2)) kept
 
 pub ended : (old text mid new : List ℕ) → mid ≡ old ++ text → new ≡ mid ++ 10 ∷ [] → new ≡ old ++ (text ++ 10 ∷ [])
 ended old text mid new e f = f ∙ ap (λ (t : List ℕ). t ++ 10 ∷ []) e ∙ append_assoc old text (10 ∷ [])

@@ -1,5 +1,5 @@
 -- Where the job stands, by what it keeps.
-use Rattle.std.specs.Prelude.{◌≡◌, ℕ, List, []}
+use Rattle.std.specs.Prelude.{◌≡◌, ℕ, List}
 use Rattle.std.specs.Str.{chars}
 use Rattle.sprintf.specs.Grammar.{IsFormat}
 use Rattle.sprintf.specs.declared.parser.FormatElement.{FormatElement}
