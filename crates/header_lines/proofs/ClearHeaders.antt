@@ -1,14 +1,11 @@
 -- A header line says one thing, or is refused for one cause, and never both.
-use Rattle.std.proofs.Common.{◌≡◌, ◌==◌, ◌+◌, ℕ, List, [], ◌∷◌, map, codes, get_or, if◌then◌else◌, refl, sym, ap, ◌∙◌, subst, inl, inr}
+use Rattle.std.proofs.Common.{◌≡◌, ◌==◌, ◌+◌, ℕ, List, [], ◌∷◌, codes, get_or, if◌then◌else◌, refl, sym, ap, ◌∙◌, subst, inl, inr}
 use Rattle.std.specs.List.{AllZip}
 use Rattle.sprintf.specs.Grammar.{IsFormat, IsSameElement}
 use Rattle.sprintf.specs.declared.parser.FormatElement.{FormatElement}
 use Rattle.sprintf.specs.declared.parser.FormatElement.TheVariants.{Verbatim, Format}
 use Rattle.sprintf.proofs.Uniqueness.{one_element_list}
-use Rattle.whiteread.specs.Words.{words}
 use Rattle.values.specs.declared.kind.Kind.{Kind}
-use Rattle.values.specs.declared.kind.Kind.TheVariants.{U8, U16, U32, U64, Usize, I8, I16, I32, I64, Isize, Word, Char}
-use Rattle.values.specs.Kind.{kind_word}
 use Rattle.row_format.specs.Columns.{Column, Columns, columns_of, with_text, with_field, is_percent}
 use Rattle.row_format.specs.Plannable.{IsUnpaired, IsLossy, RunsOn, Never, FirstAt, IsPlannable}
 use Rattle.separation.specs.declared.Refused.{Refused}
@@ -18,47 +15,11 @@ use Rattle.printer.specs.declared.dialect.Dialect.{Dialect}
 use Rattle.printer.specs.declared.dialect.Dialect.TheVariants.{Printf, Strfmt, Formatx}
 use Rattle.printer.specs.Dialect.{dialect_word}
 use Rattle.header_lines.specs.declared.cause.LineCause.{LineCause}
-use Rattle.header_lines.specs.declared.cause.LineCause.TheVariants.{Header, SourceFormat, Refused as OfFormat, Template}
-use Rattle.header_lines.specs.Headers.{IsKindsLine, RefusesKinds, IsFormatLine, RefusesFormatLine, IsDialectLine, RefusesDialect, IsTemplateLine, RefusesTemplateLine}
+use Rattle.header_lines.specs.declared.cause.LineCause.TheVariants.{Refused as OfFormat, Template}
+use Rattle.header_lines.specs.Headers.{IsFormatLine, RefusesFormatLine, IsDialectLine, IsTemplateLine, RefusesTemplateLine}
 use Rattle.header_lines.specs.Laws.{HeaderLinesAreClear}
-
--- kinds, by the first two letters of their words
-
-kind_by : ℕ → Kind → Kind → Kind → Kind → Kind → Kind
-kind_by letter a b c d e = if letter == 56 then a else (if letter == 49 then b else (if letter == 51 then c else (if letter == 54 then d else e)))
-
-kind_in : List ℕ → Kind
-kind_in word = if get_or word 0 0 == 117 then kind_by (get_or word 1 0) U8 U16 U32 U64 Usize else (if get_or word 0 0 == 105 then kind_by (get_or word 1 0) I8 I16 I32 I64 Isize
-    else (if get_or word 0 0 == 119 then Word else Char))
-
-kind_is : (kind : Kind) → kind_in (kind_word kind) ≡ kind
-unfolding kind_in kind_by
-kind_is U8 = refl
-kind_is U16 = refl
-kind_is U32 = refl
-kind_is U64 = refl
-kind_is Usize = refl
-kind_is I8 = refl
-kind_is I16 = refl
-kind_is I32 = refl
-kind_is I64 = refl
-kind_is Isize = refl
-kind_is Word = refl
-kind_is Char = refl
-
-same_kinds : (a b : List Kind) → map kind_word a ≡ map kind_word b → a ≡ b
-same_kinds [] [] e = refl
-same_kinds [] (y ∷ b) e = absurd (cc)
-same_kinds (x ∷ a) [] e = absurd (cc)
-same_kinds (x ∷ a) (y ∷ b) e =
-    let first : kind_word x ≡ kind_word y = cc in
-    let rest : map kind_word a ≡ map kind_word b = cc in
-    let one : x ≡ y = sym (kind_is x) ∙ ap kind_in first ∙ kind_is y in
-    let more : a ≡ b = same_kinds a b rest in
-    cc
-
-one_kinds : (line : List ℕ) (a b : List Kind) → IsKindsLine line a → IsKindsLine line b → a ≡ b
-one_kinds line a b p q = same_kinds a b (sym p ∙ q)
+use Rattle.header_lines.proofs.ClearHeadings.{one_headed}
+use Rattle.header_lines.proofs.KindWords.{one_kinds}
 
 -- dialects, by the first letter
 
@@ -152,7 +113,7 @@ template_apart number Formatx line why p (f, (none, is), e) = none p
 
 pub header_lines_are_clear : HeaderLinesAreClear
 header_lines_are_clear = record {
-  one_thing = record { kinds = one_kinds; columns = one_columns; dialect = one_dialect };
-  one_cause = record { kinds = λ number line a b p q. p.1 ∙ sym q.1; format = one_format_cause; dialect = λ number line a b p q. p.1 ∙ sym q.1; template = one_template_cause };
-  never_both = record { kinds = λ number line kinds why p q. q.0 kinds p; format = format_apart; dialect = λ number line dialect why p q. q.0 dialect p; template = template_apart };
+  one_thing = record { heading = one_headed; kinds = one_kinds; columns = one_columns; dialect = one_dialect };
+  one_cause = record { heading = λ heading number line a b p q. p.1 ∙ sym q.1; kinds = λ number line a b p q. p.1 ∙ sym q.1; format = one_format_cause; dialect = λ number line a b p q. p.1 ∙ sym q.1; template = one_template_cause };
+  never_both = record { heading = λ heading number line headed why p q. q.0 headed p; kinds = λ number line kinds why p q. q.0 kinds p; format = format_apart; dialect = λ number line dialect why p q. q.0 dialect p; template = template_apart };
 }

@@ -1,4 +1,5 @@
 pub mod Decimals
 pub mod ClearHeaders
+pub mod ClearHeadings
 pub mod KindWords
 pub mod MessageLemmas

@@ -1,5 +1,5 @@
 -- The header lines, each with its rule, and why it is refused; the numbers are those of the lines.
-use Rattle.std.specs.Prelude.{◌≡◌, ◌≢◌, ◌⊎◌, ℕ, List, [], ◌∷◌}
+use Rattle.std.specs.Prelude.{◌≡◌, ◌⊎◌, ℕ, List, [], ◌∷◌}
 use Rattle.sprintf.specs.Grammar.{IsFormat, IsNoFormat}
 use Rattle.sprintf.specs.declared.parser.FormatElement.{FormatElement}
 use Rattle.whiteread.specs.Words.{words}

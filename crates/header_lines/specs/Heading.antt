@@ -1,5 +1,5 @@
 -- The lines in front of the format: kinds alone in version 1; `#2`, kinds and names in version 2.
-use Rattle.std.specs.Prelude.{◌≡◌, ◌⊎◌, ◌||◌, ◌==◌, ◌+◌, ℕ, true, Bool, List, [], ◌∷◌, length, map, codes, bytes_eq}
+use Rattle.std.specs.Prelude.{◌≡◌, ◌⊎◌, ◌||◌, ◌==◌, ◌+◌, ℕ, true, Bool, List, [], ◌∷◌, length, codes, bytes_eq}
 use Rattle.std.specs.Char.{is_ascii_alphabetic, is_ascii_alphanumeric}
 use Rattle.std.specs.List.{AllByRecursion, AllPass, IsDistinct}
 use Rattle.std.specs.Str.{byte}
@@ -40,7 +40,7 @@ pub record Fields : Type 0 where
 abbrev pub AreHeading : List (List ℕ) → Fields → Type 0
 AreHeading lines fields = ((kinds_line : List ℕ) × (lines ≡ kinds_line ∷ []) × IsKindsLine kinds_line fields.kinds × (fields.names ≡ []) × (fields.version ≡ First))
     ⊎ ((version_line : List ℕ) × (kinds_line : List ℕ) × (names_line : List ℕ) × (lines ≡ version_line ∷ kinds_line ∷ names_line ∷ []) × IsSecondVersion version_line
-      × IsKindsLine kinds_line fields.kinds × IsNamesLine fields.kinds names_line × (fields.names ≡ words names_line) × (fields.version ≡ Second))
+    × IsKindsLine kinds_line fields.kinds × IsNamesLine fields.kinds names_line × (fields.names ≡ words names_line) × (fields.version ≡ Second))
 
 -- Which line in front of the format comes next: the first of all; the kinds of version 2; the names of fields of these kinds.
 pub data Heading : Type 0 where

@@ -1,13 +1,12 @@
 // The lines in front of the format line, in both versions.
-ghost use Rattle.std.specs.Prelude.{◌≡◌, ◌≤◌, ◌↔◌, IfOk, OnOk, IsTrue, map};
-ghost use Rattle.whiteread.specs.Words.{words};
-ghost use Rattle.values.specs.Datum.{word_text};
+ghost use Rattle.std.specs.Prelude.{◌≡◌, ◌≤◌, ◌↔◌, IfOk, IsTrue};
 ghost use Rattle.line_job.specs.Refusal.{IfRefused};
-ghost use Rattle.header_lines.specs.Heading.{IsSecondVersion, IsNamesLine, first_next, KeepsHeading, RefusesHeading, heading_number, number_in};
+ghost use Rattle.header_lines.specs.Heading.{IsSecondVersion, first_next, KeepsHeading, RefusesHeading, heading_number, number_in};
 ghost use Rattle.header_lines.specs.Read.{heading_of, headed_of};
 
 use crate::LineCause;
 use crate::headers::{one_word, read_kinds};
+use crate::names::read_names;
 use line_job::Refusal;
 use std::alloc::Global;
 use values::{Kind, Word};
@@ -93,20 +92,6 @@ fn read_first(alloc: Global, number: u64, line: &str) -> Result<Headed, Refusal<
     }))
 }
 
-/// Reads a names line for fields of these kinds.
-fn read_names(
-    alloc: Global,
-    number: u64,
-    kinds: &[Kind],
-    line: &str,
-) -> Result<Vec<Word>, Refusal<LineCause>>
-    ensures kept { OnOk result (IsNamesLine kinds.now line.now) }
-    ensures names { IfOk result (λ names. map word_text names.items ≡ words line.now) }
-    ensures refused { IfRefused result (λ why. (¬ IsNamesLine kinds.now line.now) × (why ≡ LineCause.Header number)) }
-{
-    Err(Refusal::NoMemory)
-}
-
 /// Reads a line in front of the format line.
 pub fn read_heading(
     alloc: Global,
@@ -114,8 +99,8 @@ pub fn read_heading(
     number: u64,
     line: &str,
 ) -> Result<Headed, Refusal<LineCause>>
-    ensures kept { IfOk result (λ headed. KeepsHeading (heading_of heading.entry) line.now (headed_of headed)) }
-    ensures refused { IfRefused result (RefusesHeading (heading_of heading.entry) number line.now) }
+    ensures kept { IfOk result (λ headed. KeepsHeading (heading_of heading) line.now (headed_of headed)) }
+    ensures refused { IfRefused result (RefusesHeading (heading_of heading) number line.now) }
 {
     match heading {
         Heading::First => read_first(alloc, number, line),

@@ -6,6 +6,7 @@ mod cause;
 mod headers;
 mod heading;
 mod laws;
+mod names;
 
 pub use cause::LineCause;
 pub use headers::{read_dialect, read_format, read_kinds, read_template};
