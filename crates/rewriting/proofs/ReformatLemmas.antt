@@ -5,6 +5,7 @@ use Rattle.whiteread.specs.Lines.{lines_of}
 use Rattle.line_job.specs.declared.stop.Stop.{Stop}
 use Rattle.line_job.specs.declared.stop.Stop.TheVariants.{Line, NotUtf8, TooLong, ReadFault, WriteFault, NoMemory}
 use Rattle.line_job.specs.Ends.{Seen, SourceState, SinkState, CountsReadFault, CountsWriteFault, Took}
+use Rattle.line_job.specs.Rules.{AreKept, AreAllKept}
 use Rattle.line_job.specs.Runs.{Runs, IsKept}
 use Rattle.line_job.specs.Told.{RunsTold, result_status, status_of}
 use Rattle.header_lines.specs.declared.cause.LineCause.{LineCause}
@@ -13,9 +14,11 @@ use Rattle.rewriting.specs.declared.error.ReformatError.TheVariants.{NoMemory as
 use Rattle.header_lines.specs.Message.{cause_message}
 use Rattle.rewriting.specs.Error.{error_of}
 use Rattle.rewriting.specs.Rewritten.{IsRewritten, AreRewritten}
-use Rattle.rewriting.specs.Reformats.{Reformats, WritesAll, reformat_result, Completes}
-use Rattle.rewriting.specs.Rules.{kinds_next, rewrite_rules}
-use Rattle.rewriting.proofs.RewriteLemmas.{kept_is_rewritten, rewritten_is_kept}
+use Rattle.rewriting.specs.Reformats.{Reformats, WritesAll, IsResultOf, Completes}
+use Rattle.header_lines.specs.Heading.{first_next, number_in}
+use Rattle.rewriting.specs.Rules.{Stage, heading_next, rows_next, rewrite_rules}
+use Rattle.rewriting.specs.Inner.State.{version_of}
+use Rattle.rewriting.proofs.RewriteLemmas.{one_last, rows_behind, kept_is_rewritten, rewritten_is_kept}
 
 abbrev stopped : Stop LineCause → Result ℕ (Stop LineCause)
 stopped stop = Err stop
@@ -36,36 +39,40 @@ any_is None P here = tt
 any_is (Some xs) P here = here xs
 
 kept_writes : (input : Seen SourceState) (output : Seen SinkState)
-    → IfSome input.before.rest (λ bytes. IsAtEnd input.after.rest × ((text : List ℕ) × IsKept rewrite_rules kinds_next bytes text × Took output text)) → WritesAll input output
-kept_writes input output h = maps input.before.rest _ _ (λ bytes here. (here.0, (here.1.0, kept_is_rewritten (lines_of bytes) here.1.0 here.1.1, here.1.2))) h
-
-four : (a b c d : List ℕ) (rows : List (List ℕ)) → length (a ∷ b ∷ c ∷ d ∷ rows) ≡ length rows + 4
-four a b c d rows = omega arith
+    → IfSome input.before.rest (λ bytes. IsAtEnd input.after.rest × ((text : List ℕ) × IsKept rewrite_rules (heading_next first_next) bytes text × Took output text)) → WritesAll input output
+kept_writes input output h = maps input.before.rest _ _ (λ bytes here. (here.0, (here.1.0, (kept_is_rewritten (lines_of bytes) here.1.0 here.1.1).0, here.1.2))) h
 
 memory : (stop : Stop LineCause) → IsErrOf (stopped stop) NoMemory → IsErrOf (refused (error_of stop)) ErrorNoMemory
 memory stop e = let same : stop ≡ NoMemory = cc in ap (λ (s : Stop LineCause). refused (error_of s)) same
 
--- rewritten lines are four headers and rows
-four_more : (lines : List (List ℕ)) (text : List ℕ) (n : ℕ) → AreRewritten lines text → length lines ≡ n → length lines ≡ (n - 4) + 4
-four_more lines text n r e =
-    let long : length lines ≡ length r.rows + 4 = ap length r.lines_are ∙ four r.kinds_line r.layout.format r.dialect_line r.layout.template r.rows in
-    omega (arith, long, e)
+-- the lines behind the headers, by the version at the stage to which the lines led
+behind : (lines : List (List ℕ)) (text owed : List ℕ) (last : Stage) (n : ℕ) → AreAllKept rewrite_rules 0 (heading_next first_next) lines text → AreKept rewrite_rules 0 (heading_next first_next) lines owed last
+    → length lines ≡ n → (text : List ℕ) × (r : AreRewritten lines text) × (length r.rows ≡ n - number_in (version_of last) 4)
+behind lines text owed last n kept stands count =
+    let all = kept_is_rewritten lines text kept in
+    let r : AreRewritten lines text = all.0 in
+    let same : last ≡ rows_next r.layout = one_last 0 (heading_next first_next) lines owed kept.0 last kept.2 stands kept.3 ∙ all.1 in
+    let headers : number_in (version_of last) 4 ≡ number_in r.layout.version 4 = ap (λ (s : Stage). number_in (version_of s) 4) same in
+    let sum = rows_behind lines text r in
+    (text, r, omega (arith, headers, sum, count))
 
-must_end : (limit : ℕ) (input : Seen SourceState) (output : Seen SinkState) (answer : Result ℕ (Stop LineCause)) → Runs rewrite_rules kinds_next limit input output answer
+must_end : (limit : ℕ) (input : Seen SourceState) (output : Seen SinkState) (answer : Result ℕ (Stop LineCause)) → Runs rewrite_rules (heading_next first_next) limit input output answer
     → IfSome input.before.rest (λ bytes. (text : List ℕ) → IsRewritten bytes text → length bytes ≤ limit → ¬ CountsReadFault input → ¬ CountsWriteFault output → IsOk answer ⊎ IsErrOf answer NoMemory)
 must_end limit input output answer runs = maps input.before.rest _ _ (λ bytes here text r le a b. here text (rewritten_is_kept (lines_of bytes) text r) le a b) runs.complete
 
-pub reformats : (limit : ℕ) (input : Seen SourceState) (output : Seen SinkState) (answer : Result ℕ (Stop LineCause)) (result : Result ℕ ReformatError) → Runs rewrite_rules kinds_next limit input output answer
-    → result ≡ reformat_result answer → Reformats limit input output result
-reformats limit input output (Ok lines) result runs is = subst (Reformats limit input output) (sym is) (record {
+pub rewrites : (limit : ℕ) (input : Seen SourceState) (output : Seen SinkState) (lines : ℕ) (last : Stage) → Runs rewrite_rules (heading_next first_next) limit input output (Ok lines)
+    → IfSome input.before.rest (λ bytes. (text : List ℕ) × AreKept rewrite_rules 0 (heading_next first_next) (lines_of bytes) text last) → Reformats limit input output (Ok (lines - number_in (version_of last) 4))
+rewrites limit input output lines last runs stands = record {
   answer = Ok lines;
   runs = runs;
-  result_is = refl;
+  result_is = (version_of last, refl);
   rewritten = kept_writes input output runs.kept;
-  rows = both input.before.rest _ _ _ (λ bytes here count. four_more (lines_of bytes) here.1.0 lines here.1.1 count) (kept_writes input output runs.kept) runs.lines;
+  rows = both input.before.rest _ _ _ (λ bytes kept at. behind (lines_of bytes) kept.1.0 at.0.0 last lines kept.1.1 at.0.1 at.1) runs.kept (both input.before.rest _ _ _ (λ bytes at count. (at, count)) stands runs.lines);
   complete = any_is input.before.rest _ (λ bytes text r le a b. inl refl);
-})
-reformats limit input output (Err stop) result runs is = subst (Reformats limit input output) (sym is) (record {
+}
+
+pub refuses : (limit : ℕ) (input : Seen SourceState) (output : Seen SinkState) (stop : Stop LineCause) → Runs rewrite_rules (heading_next first_next) limit input output (Err stop) → Reformats limit input output (Err (error_of stop))
+refuses limit input output stop runs = record {
   answer = Err stop;
   runs = runs;
   result_is = refl;
@@ -75,7 +82,7 @@ reformats limit input output (Err stop) result runs is = subst (Reformats limit 
     | inl ok ↦ absurd (cc)
     | inr none ↦ inr (memory stop none)
   ]) (must_end limit input output (Err stop) runs);
-})
+}
 
 -- statuses
 
@@ -87,7 +94,7 @@ not_zero ReadFault e = absurd (omega (arith, e))
 not_zero WriteFault e = absurd (omega (arith, e))
 not_zero NoMemory e = absurd (omega (arith, e))
 
-of_answer : (limit : ℕ) (input : Seen SourceState) (output : Seen SinkState) (answer : Result ℕ (Stop LineCause)) → Runs rewrite_rules kinds_next limit input output answer → result_status answer ≡ 0 → WritesAll input output
+of_answer : (limit : ℕ) (input : Seen SourceState) (output : Seen SinkState) (answer : Result ℕ (Stop LineCause)) → Runs rewrite_rules (heading_next first_next) limit input output answer → result_status answer ≡ 0 → WritesAll input output
 of_answer limit input output (Ok lines) runs zero = kept_writes input output runs.kept
 of_answer limit input output (Err stop) runs zero = absurd (not_zero stop zero)
 
@@ -96,9 +103,9 @@ status_ends (Ok lines) status is end = inl is
 status_ends (Err stop) status is (inl ok) = absurd (cc)
 status_ends (Err stop) status is (inr none) = let same : stop ≡ NoMemory = cc in inr (is ∙ ap status_of same)
 
-pub told_writes : (limit : ℕ) (input : Seen SourceState) (output errors : Seen SinkState) (status : ℕ) → RunsTold rewrite_rules kinds_next cause_message limit input output errors status → status ≡ 0 → WritesAll input output
+pub told_writes : (limit : ℕ) (input : Seen SourceState) (output errors : Seen SinkState) (status : ℕ) → RunsTold rewrite_rules (heading_next first_next) cause_message limit input output errors status → status ≡ 0 → WritesAll input output
 told_writes limit input output errors status told zero = of_answer limit input output told.result told.runs (sym told.status_is ∙ zero)
 
-pub told_completes : (limit : ℕ) (input : Seen SourceState) (output errors : Seen SinkState) (status : ℕ) → RunsTold rewrite_rules kinds_next cause_message limit input output errors status → Completes limit input output status
+pub told_completes : (limit : ℕ) (input : Seen SourceState) (output errors : Seen SinkState) (status : ℕ) → RunsTold rewrite_rules (heading_next first_next) cause_message limit input output errors status → Completes limit input output status
 told_completes limit input output errors status told =
     maps input.before.rest _ _ (λ bytes here text r le a b. status_ends told.result status told.status_is (here text r le a b)) (must_end limit input output told.result told.runs)

@@ -21,6 +21,7 @@ use Rattle.line_job.specs.Refusal.{IfRefused}
 use Rattle.header_lines.specs.declared.cause.LineCause.{LineCause}
 use Rattle.header_lines.specs.declared.cause.LineCause.TheVariants.{Render}
 use Rattle.header_lines.proofs.ClearHeaders.{header_lines_are_clear}
+use Rattle.header_lines.specs.declared.heading.Version.{Version}
 use Rattle.rewriting.specs.declared.rows.Source.{Source}
 use Rattle.rewriting.specs.Rewrite.{IsRow, IsRowOf, Renders, IsRewrittenAs}
 use Rattle.rewriting.specs.Rules.{RefusesRow}
@@ -45,18 +46,16 @@ plan_row prints source row values sound is =
     let text : row ≡ row_text (columns_of is.elements) kinds values = cc in
     record { fit = subst (λ (c : Columns). AreFit c.columns kinds values) all is.fit; text = text ∙ ap (λ (c : Columns). row_text c kinds values) all }
 
-row_of : PrintsColumns → (source : Source) (printing : Printing) (row : List ℕ) (values : List Value) → IsSoundSource source → IsRead source.plan row values → IsRowOf (layout_of source printing) row (map datum_of values)
-row_of prints source printing row values sound read = record {
+row_of : PrintsColumns → (version : Version) (source : Source) (printing : Printing) (row : List ℕ) (values : List Value) → IsSoundSource source → IsRead source.plan row values → IsRowOf (layout_of version source printing) row (map datum_of values)
+row_of prints version source printing row values sound read = record {
   is_row = row_of_plan prints source row (map datum_of values) sound read.row;
   only = λ others is. read.only others (plan_row prints source row others sound is);
 }
 
 -- what the printer prints of the values, it prints by the layout
-renders : (source : Source) (printing : Printing) (values : List Value) (outcome : Result (List ℕ) RenderFault) → printing.names ≡ [] → map kind_of values ≡ source.plan.kinds
-    → Prints printing (map kind_of values) (map datum_of values) outcome → Renders (layout_of source printing) (map datum_of values) outcome
-renders source printing values outcome none kinds prints =
-    let by_kinds : Prints printing source.plan.kinds (map datum_of values) outcome = subst (λ (k : List Kind). Prints printing k (map datum_of values) outcome) kinds prints in
-    subst (λ (n : List (List ℕ)). Prints (record { dialect = printing.dialect; template = printing.template; names = n }) source.plan.kinds (map datum_of values) outcome) none by_kinds
+renders : (version : Version) (source : Source) (printing : Printing) (values : List Value) (outcome : Result (List ℕ) RenderFault) → map kind_of values ≡ source.plan.kinds
+    → Prints printing (map kind_of values) (map datum_of values) outcome → Renders (layout_of version source printing) (map datum_of values) outcome
+renders version source printing values outcome kinds prints = subst (λ (k : List Kind). Prints printing k (map datum_of values) outcome) kinds prints
 
 abbrev text_is : List ℕ → Result (List ℕ) RenderFault
 text_is line = Ok line
@@ -64,18 +63,18 @@ text_is line = Ok line
 abbrev fault_is : RenderFault → Result (List ℕ) RenderFault
 fault_is fault = Err fault
 
-pub rewritten : PrintsColumns → (source : Source) (printing : Printing) (row line : List ℕ) (values : List Value) → IsSoundSource source → printing.names ≡ [] → IsRead source.plan row values
-    → Prints printing (map kind_of values) (map datum_of values) (text_is line) → IsRewrittenAs (layout_of source printing) row line
-rewritten prints source printing row line values sound none read text =
-    (map datum_of values, row_of prints source printing row values sound read, renders source printing values (text_is line) none read.kinds text)
+pub rewritten : PrintsColumns → (version : Version) (source : Source) (printing : Printing) (row line : List ℕ) (values : List Value) → IsSoundSource source → IsRead source.plan row values
+    → Prints printing (map kind_of values) (map datum_of values) (text_is line) → IsRewrittenAs (layout_of version source printing) row line
+rewritten prints version source printing row line values sound read text =
+    (map datum_of values, row_of prints version source printing row values sound read, renders version source printing values (text_is line) read.kinds text)
 
-pub unrendered : PrintsColumns → (source : Source) (printing : Printing) (number : ℕ) (row : List ℕ) (fault : RenderFault) (values : List Value) → IsSoundSource source → printing.names ≡ [] → IsRead source.plan row values
-    → Prints printing (map kind_of values) (map datum_of values) (fault_is fault) → RefusesRow (layout_of source printing) number row (Render number fault)
-unrendered prints source printing number row fault values sound none read text =
-    inr (map datum_of values, fault, row_of prints source printing row values sound read, renders source printing values (fault_is fault) none read.kinds text, refl)
+pub unrendered : PrintsColumns → (version : Version) (source : Source) (printing : Printing) (number : ℕ) (row : List ℕ) (fault : RenderFault) (values : List Value) → IsSoundSource source → IsRead source.plan row values
+    → Prints printing (map kind_of values) (map datum_of values) (fault_is fault) → RefusesRow (layout_of version source printing) number row (Render number fault)
+unrendered prints version source printing number row fault values sound read text =
+    inr (map datum_of values, fault, row_of prints version source printing row values sound read, renders version source printing values (fault_is fault) read.kinds text, refl)
 
-unread : PrintsColumns → (source : Source) (printing : Printing) (number : ℕ) (row : List ℕ) (why : LineCause) → IsSoundSource source → IsNoRow source.plan number row why → RefusesRow (layout_of source printing) number row why
-unread prints source printing number row why sound none = inl ((λ values is. none.0 values (plan_row prints source row values sound is)), none.1)
+unread : PrintsColumns → (version : Version) (source : Source) (printing : Printing) (number : ℕ) (row : List ℕ) (why : LineCause) → IsSoundSource source → IsNoRow source.plan number row why → RefusesRow (layout_of version source printing) number row why
+unread prints version source printing number row why sound none = inl ((λ values is. none.0 values (plan_row prints source row values sound is)), none.1)
 
 pub on_ok : {T E A B : Type 0} (r : Result T E) → (A → B) → OnOk r A → OnOk r B
 on_ok (Ok t) f h = f h
@@ -92,6 +91,6 @@ abbrev pub not_read : Refusal LineCause → Result Unit (Refusal LineCause)
 not_read why = Err why
 
 -- the refusal of a row that has no values, as that of the job
-pub unread_if : PrintsColumns → (source : Source) (printing : Printing) (number : ℕ) (row : List ℕ) (why : Refusal LineCause) → IsSoundSource source → IfRefused (not_read why) (IsNoRow source.plan number row) → IfRefused (not_read why) (RefusesRow (layout_of source printing) number row)
-unread_if prints source printing number row (Line cause) sound none = unread prints source printing number row cause sound none
-unread_if prints source printing number row NoMemory sound none = tt
+pub unread_if : PrintsColumns → (version : Version) (source : Source) (printing : Printing) (number : ℕ) (row : List ℕ) (why : Refusal LineCause) → IsSoundSource source → IfRefused (not_read why) (IsNoRow source.plan number row) → IfRefused (not_read why) (RefusesRow (layout_of version source printing) number row)
+unread_if prints version source printing number row (Line cause) sound none = unread prints version source printing number row cause sound none
+unread_if prints version source printing number row NoMemory sound none = tt

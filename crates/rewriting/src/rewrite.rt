@@ -1,28 +1,57 @@
 // The job that rewrites rows.
 ghost use Rattle.std.specs.Prelude.{◌≡◌, [], IfOk};
 ghost use Rattle.line_job.specs.Refusal.{IfRefused};
-ghost use Rattle.rewriting.specs.declared.rewrite.State.TheVariants.{Kinds};
-ghost use Rattle.rewriting.specs.Rules.{Stage, rewrite_rules, Keeps, Refuses};
-ghost use Rattle.rewriting.specs.Inner.State.{stage_of, IsHeaderNext, IsSoundState};
+ghost use Rattle.header_lines.specs.Heading.{first_next, number_in};
+ghost use Rattle.header_lines.specs.Read.{headed_of};
+ghost use Rattle.rewriting.specs.Rules.{Stage, rewrite_rules, heading_next, after, Keeps, Refuses};
+ghost use Rattle.rewriting.specs.Inner.State.{stage_of, version_of, IsHeaderNext, IsSoundState};
 ghost use Rattle.rewriting.specs.Inner.Clear.{rewrite_clear};
 
 use crate::rows::{Source, read_source, rewrite_row};
 use bumpalo::Bump;
-use header_lines::{LineCause, read_dialect, read_kinds, read_template};
+use header_lines::{
+    Fields, Headed, Heading, LineCause, Version, read_dialect, read_heading, read_template,
+};
 use line_job::{LineJob, Refusal};
 use printer::{Dialect, Printer};
 use std::alloc::Global;
 use std::mem;
-use values::Kind;
 
 /// Which line comes next, and what those before it said.
 #[derive(Drop)]
 pub(crate) enum State<'a> {
-    Kinds,
-    Format(Vec<Kind>),
-    Dialect(Source<'a>),
-    Template(Source<'a>, Dialect),
-    Rows(Source<'a>, Printer<'a>),
+    Heading(Heading),
+    Format(Fields),
+    Dialect(Fields, Source<'a>),
+    Template(Fields, Source<'a>, Dialect),
+    Rows(Version, Source<'a>, Printer<'a>),
+}
+
+impl State<'_> {
+    /// The version of the input; the first, where no line was read.
+    fn version(&self) -> Version
+        ensures { result ≡ version_of (stage_of self.now) }
+    {
+        match self {
+            State::Heading(Heading::First) => Version::First,
+            State::Heading(_) => Version::Second,
+            State::Format(fields) => fields.version,
+            State::Dialect(fields, _) => fields.version,
+            State::Template(fields, _, _) => fields.version,
+            State::Rows(version, _, _) => *version,
+        }
+    }
+}
+
+// Where the job stands after a line in front of the format line.
+fn state_after<'a>(headed: Headed) -> State<'a>
+    ensures stage { stage_of result ≡ after (headed_of headed) }
+    ensures sound { IsSoundState result }
+{
+    match headed {
+        Headed::More(heading) => State::Heading(heading),
+        Headed::Format(fields) => State::Format(fields),
+    }
 }
 
 /// Reads the header line that comes next.
@@ -40,17 +69,20 @@ fn read_header<'a>(
     ensures refused { IfRefused result (Refuses (stage_of state.entry) number line.now) }
 {
     match state {
-        State::Kinds => Ok(State::Format(read_kinds(alloc, number, line)?)),
-        State::Format(kinds) => {
-            let source = read_source(alloc, texts, number, &kinds, line)?;
-            Ok(State::Dialect(source))
+        State::Heading(heading) => Ok(state_after(read_heading(alloc, heading, number, line)?)),
+        State::Format(fields) => {
+            let source = read_source(alloc, texts, number, &fields.kinds, line)?;
+            Ok(State::Dialect(fields, source))
         }
-        State::Dialect(source) => Ok(State::Template(source, read_dialect(number, line)?)),
-        State::Template(source, dialect) => {
-            let printer = read_template(alloc, texts, number, dialect, line)?;
-            Ok(State::Rows(source, printer))
+        State::Dialect(fields, source) => {
+            let dialect = read_dialect(number, line)?;
+            Ok(State::Template(fields, source, dialect))
         }
-        State::Rows(source, printer) => Ok(State::Rows(source, printer)),
+        State::Template(fields, source, dialect) => {
+            let printer = read_template(alloc, texts, number, dialect, &fields.names, line)?;
+            Ok(State::Rows(fields.version, source, printer))
+        }
+        State::Rows(version, source, printer) => Ok(State::Rows(version, source, printer)),
     }
 }
 
@@ -66,13 +98,21 @@ pub(crate) struct Rewrite<'a> {
 impl<'a> Rewrite<'a> {
     /// No line was read. It takes no memory.
     pub(crate) fn new(alloc: Global, texts: &'a Bump) -> Rewrite<'a>
-        ensures { result.state ≡ Kinds }
+        ensures stage { stage_of result.state ≡ heading_next first_next }
+        ensures sound { IsSoundState result.state }
     {
         Rewrite {
             texts,
-            state: State::Kinds,
+            state: State::Heading(Heading::First),
             again: String::new(alloc),
         }
+    }
+
+    /// How many header lines stand in front of the rows, by the version of the input.
+    pub(crate) fn headers(&self) -> u64
+        ensures { result ≡ number_in (version_of (stage_of self.now.state)) 4 }
+    {
+        self.state.version().number_in(4)
     }
 }
 
@@ -98,10 +138,10 @@ impl LineJob for Rewrite<'_> {
         line: &str,
         out: &mut String,
     ) -> Result<(), Refusal<LineCause>> {
-        if let State::Rows(source, printer) = &self.state {
+        if let State::Rows(_, source, printer) = &self.state {
             return rewrite_row(alloc, source, printer, number, line, &mut self.again, out);
         }
-        let state = mem::replace(&mut self.state, State::Kinds);
+        let state = mem::replace(&mut self.state, State::Heading(Heading::First));
         self.state = read_header(alloc, self.texts, state, number, line)?;
         Ok(())
     }
@@ -112,13 +152,14 @@ impl LineJob for Rewrite<'_> {
         _before: u64,
         _out: &mut String,
     ) -> Result<(), Refusal<LineCause>> {
-        match &self.state {
-            State::Kinds => Err(Refusal::Line(LineCause::Header { line: 1 })),
-            State::Format(_) => Err(Refusal::Line(LineCause::Header { line: 2 })),
-            State::Dialect(_) => Err(Refusal::Line(LineCause::Header { line: 3 })),
-            State::Template(_, _) => Err(Refusal::Line(LineCause::Header { line: 4 })),
-            State::Rows(_, _) => Ok(()),
-        }
+        let missing = match &self.state {
+            State::Heading(heading) => heading.number(),
+            State::Format(fields) => fields.version.number_in(2),
+            State::Dialect(fields, _) => fields.version.number_in(3),
+            State::Template(fields, _, _) => fields.version.number_in(4),
+            State::Rows(_, _, _) => return Ok(()),
+        };
+        Err(Refusal::Line(LineCause::Header { line: missing }))
     }
 
     ghost clear = { rewrite_clear };

@@ -4,6 +4,7 @@ ghost use Rattle.whiteread.specs.Lines.{line_feed};
 ghost use Rattle.row_plan.specs.Plan.{IsRead};
 ghost use Rattle.line_job.specs.Refusal.{IfRefused};
 ghost use Rattle.header_lines.specs.Headers.{RefusesFormatLine};
+ghost use Rattle.header_lines.specs.declared.heading.Version.{Version};
 ghost use Rattle.rewriting.specs.Rewrite.{IsRewrittenAs};
 ghost use Rattle.rewriting.specs.Rules.{RefusesRow};
 ghost use Rattle.rewriting.specs.Inner.State.{layout_of, IsSoundSource, IsNoRow};
@@ -78,10 +79,9 @@ pub(crate) fn rewrite_row(
     again: &mut String,
     out: &mut String,
 ) -> Result<(), Refusal<LineCause>>
-    requires source { IsSoundSource source.now }
-    requires names { printer.now.names ≡ [] }
-    ensures kept { OnOk result ((line : List ℕ) × IsRewrittenAs (layout_of source.now printer.now) row.now line × (string_bytes out.new ≡ string_bytes out.old ++ (line ++ line_feed ∷ []))) }
-    ensures refused { IfRefused result (RefusesRow (layout_of source.now printer.now) number row.now) }
+    requires { IsSoundSource source.now }
+    ensures kept { (version : Version) → OnOk result ((line : List ℕ) × IsRewrittenAs (layout_of version source.now printer.now) row.now line × (string_bytes out.new ≡ string_bytes out.old ++ (line ++ line_feed ∷ []))) }
+    ensures refused { (version : Version) → IfRefused result (RefusesRow (layout_of version source.now printer.now) number row.now) }
     ensures as_before { OnErr result (string_bytes out.new ≡ string_bytes out.old) }
 {
     prints_columns();

@@ -7,4 +7,4 @@ use Rattle.rewriting.proofs.rewrite.RewriteLineJob.line.Goals as goal
 
 pub returns-in-Rows-clause-refused : goal.returns-in-Rows-clause-refused
 returns-in-Rows-clause-refused c =
-    subst (λ (s : State). IfRefused c.rewrite_row.result (Refuses (stage_of s) c.args.number c.args.line.now)) (sym c.in-Rows.is) c.rewrite_row.ensures.refused
+    subst (λ (s : State). IfRefused c.rewrite_row.result (Refuses (stage_of s) c.args.number c.args.line.now)) (sym c.in-Rows.is) (c.rewrite_row.ensures.refused _)
