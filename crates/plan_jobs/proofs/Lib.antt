@@ -1,4 +1,6 @@
 mod NoMemory
 mod Joining
 mod Tokens
+mod KeptLines
 pub mod WrittenLemmas
+mod MessageLemmas

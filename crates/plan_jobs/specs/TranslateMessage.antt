@@ -1,7 +1,7 @@
 -- What the command that translates tells of a refused line.
 use Rattle.std.specs.Prelude.{◌≡◌, ◌<◌, ◌^◌, ◌++◌, ℕ, List, codes, decimal}
 use Rattle.line_job.specs.declared.stop.Stop.{Stop}
-use Rattle.line_job.specs.declared.stop.Stop.TheVariants.{Line, NotUtf8, TooLong, ReadFault, WriteFault, NoMemory}
+use Rattle.line_job.specs.declared.stop.Stop.TheVariants.{Line, NotUtf8}
 use Rattle.line_job.specs.Told.{line_message, stop_message}
 use Rattle.plan_jobs.specs.declared.cause.TranslateCause.{TranslateCause}
 use Rattle.plan_jobs.specs.declared.cause.TranslateCause.TheVariants.{Header, SourceFormat, Element}

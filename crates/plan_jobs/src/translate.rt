@@ -1,5 +1,5 @@
 // The job that translates: it judges kinds and a format, reads the rest, and owes the template at the end.
-ghost use Rattle.std.specs.Prelude.{◌≡◌, [], true, IfOk, Ok, string_bytes};
+ghost use Rattle.std.specs.Prelude.{◌≡◌, [], List, true, IfOk, Ok, string_bytes};
 ghost use Rattle.sprintf.specs.Grammar.{IsFormat};
 ghost use Rattle.sprintf.specs.declared.parser.FormatElement.{FormatElement};
 ghost use Rattle.line_job.specs.Ends.{source_seen, sink_seen};
@@ -34,11 +34,7 @@ enum State {
 }
 
 /// Reads a kinds line.
-fn kinds_of(
-    alloc: Global,
-    number: u64,
-    line: &str,
-) -> Result<Vec<Kind>, Refusal<TranslateCause>>
+fn kinds_of(alloc: Global, number: u64, line: &str) -> Result<Vec<Kind>, Refusal<TranslateCause>>
     ensures ok { IfOk result (λ kinds. IsKindsLine line.now kinds.items) }
     ensures refused { IfRefused result (RefusesKinds number line.now) }
 {

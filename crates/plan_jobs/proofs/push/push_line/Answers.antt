@@ -3,7 +3,7 @@ use Rattle.std.proofs.lemmas.Str.{IsUtf8-string_bytes}
 use Rattle.plan_jobs.proofs.push.push_line.Goals as goal
 
 pub end_line-requires : goal.end_line-requires
-end_line-requires c = record {
+end_line-requires g c = record {
   front = string_bytes c.args.out.now;
   more = c.args.text.now;
   is = search rules;

@@ -1,8 +1,8 @@
-use Rattle.std.proofs.Common.{◌≡◌, ℕ, List, arith, subst, refl}
+use Rattle.std.proofs.Common.{◌≡◌, ℕ, List, arith, subst}
 use Rattle.line_job.specs.Ends.{source_seen, sink_seen}
 use Rattle.line_job.specs.Told.{RunsTold}
 use Rattle.header_lines.specs.Message.{cause_message}
-use Rattle.plan_jobs.specs.Scan.{ScanStage, scan_rules}
+use Rattle.plan_jobs.specs.Scan.{scan_rules}
 use Rattle.plan_jobs.proofs.NoMemory.{tells_no_memory}
 use Rattle.plan_jobs.proofs.WrittenLemmas.{told_scans}
 use Rattle.plan_jobs.proofs.scan.run_scan.Goals as goal
