@@ -3,3 +3,4 @@ pub mod ClearHeaders
 pub mod ClearHeadings
 pub mod KindWords
 pub mod MessageLemmas
+pub mod NameLemmas
