@@ -5,10 +5,11 @@ ghost use Rattle.sprintf.specs.declared.parser.FormatElement.{FormatElement};
 ghost use Rattle.line_job.specs.Ends.{source_seen, sink_seen};
 ghost use Rattle.line_job.specs.Refusal.{IfRefused};
 ghost use Rattle.line_job.specs.Told.{RunsTold};
-ghost use Rattle.header_lines.specs.Heading.{Headed, first_next, KeepsHeading};
+ghost use Rattle.header_lines.specs.Heading.{Headed as AnyHeaded, first_next, KeepsHeading};
 ghost use Rattle.header_lines.specs.Read.{heading_of, headed_of};
 ghost use Rattle.translation.specs.Translated.{translated};
 ghost use Rattle.plan_jobs.specs.TranslateMessage.{translate_message};
+ghost use Rattle.plan_jobs.specs.declared.cause.TranslateCause.TheVariants.{Header};
 ghost use Rattle.plan_jobs.specs.Translate.{TranslateStage, heading_next, after, translate_rules, judges, Keeps, Refuses, RefusesFormat};
 ghost use Rattle.plan_jobs.specs.Written.{TranslatesAll};
 ghost use Rattle.plan_jobs.specs.Inner.TranslateState.{stage_of};
@@ -51,8 +52,8 @@ fn read_front(
     number: u64,
     line: &str,
 ) -> Result<Headed, Refusal<TranslateCause>>
-    ensures kept { IfOk result (λ headed. KeepsHeading (heading_of heading.entry) line.now (headed_of headed)) }
-    ensures refused { IfRefused result (λ why. ((headed : Headed) → ¬ KeepsHeading (heading_of heading.entry) line.now headed) × (why ≡ TranslateCause.Header number)) }
+    ensures kept { IfOk result (λ headed. KeepsHeading (heading_of heading) line.now (headed_of headed)) }
+    ensures refused { IfRefused result (λ why. ((headed : AnyHeaded) → ¬ KeepsHeading (heading_of heading) line.now headed) × (why ≡ Header number)) }
 {
     match read_heading(alloc, heading, number, line) {
         Ok(headed) => Ok(headed),
