@@ -1,7 +1,7 @@
 -- Lemmas on lists of names.
-use Rattle.std.proofs.Common.{◌≡◌, ◌↔◌, ◌++◌, ℕ, List, [], ◌∷◌, length, map, true, false, ap, sym, ◌∙◌, subst, bytes_eq}
+use Rattle.std.proofs.Common.{◌≡◌, ◌↔◌, Ordering, ◌++◌, ℕ, List, [], ◌∷◌, length, map, false, ap, sym, ◌∙◌, subst, bytes_eq}
 use Rattle.std.specs.List.{AllByRecursion, IsDistinct}
-use Rattle.std.specs.Ordering.{Ordering, nat_cmp, eq_by_cmp, on}
+use Rattle.std.specs.Ordering.{nat_cmp, eq_by_cmp, on}
 use Rattle.std.specs.Cmp.{IsTotalOrder}
 use Rattle.std.specs.Cmp.Lexicographic.{slice_cmp}
 use Rattle.std.specs.Set.{distinct_count}
@@ -43,10 +43,12 @@ apart_by_cmp x [] h = tt
 apart_by_cmp x (y ∷ lent) h = (is_eq-slice_cmp x.now y.now ∙ h.0, apart_by_cmp x lent h.1)
 
 distinct : (lent : List (Bor (List ℕ))) → IsDistinct (eq_by_cmp text_cmp) lent → IsDistinct bytes_eq (texts lent)
+unfolding IsDistinct
 distinct [] h = tt
 distinct (x ∷ lent) h = (apart x lent h.0, distinct lent h.1)
 
 distinct_by_cmp : (lent : List (Bor (List ℕ))) → IsDistinct bytes_eq (texts lent) → IsDistinct (eq_by_cmp text_cmp) lent
+unfolding IsDistinct
 distinct_by_cmp [] h = tt
 distinct_by_cmp (x ∷ lent) h = (apart_by_cmp x lent h.0, distinct_by_cmp lent h.1)
 
