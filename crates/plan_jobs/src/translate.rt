@@ -146,7 +146,10 @@ impl LineJob for Translate {
         line: &str,
         _out: &mut String,
     ) -> Result<(), Refusal<TranslateCause>> {
-        let state = mem::replace(&mut self.state, State::Heading(Target::Strfmt, Heading::First));
+        let state = mem::replace(
+            &mut self.state,
+            State::Heading(Target::Strfmt, Heading::First),
+        );
         self.state = read_header(alloc, state, number, line)?;
         Ok(())
     }
