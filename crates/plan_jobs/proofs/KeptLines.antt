@@ -67,7 +67,3 @@ nothing text first rest e none no_more = e ∙ ap (λ (t : List ℕ). t ++ rest)
 -- a text of which only the tail isn't empty
 pub only_tail : (text owed tail last : List ℕ) → text ≡ owed ++ tail → owed ≡ [] → tail ≡ last → text ≡ last
 only_tail text owed tail last e none is = e ∙ ap (λ (t : List ℕ). t ++ tail) none ∙ is
-
--- a line, and the one after it
-pub two_lines : (lines others more : List (List ℕ)) (line other : List ℕ) → lines ≡ line ∷ others → others ≡ other ∷ more → lines ≡ line ∷ other ∷ more
-two_lines lines others more line other e f = e ∙ ap (λ (ls : List (List ℕ)). line ∷ ls) f

@@ -2,5 +2,6 @@ mod NoMemory
 mod Joining
 mod Tokens
 mod KeptLines
+mod Headings
 pub mod WrittenLemmas
 mod MessageLemmas

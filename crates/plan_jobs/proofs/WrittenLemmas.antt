@@ -1,6 +1,7 @@
 -- What a success wrote, in the words of plans, of translations and of tokens.
 use Rattle.std.proofs.Common.{◌≡◌, ◌+◌, ◌++◌, ℕ, List, [], ◌∷◌, refl, sym, ap, ◌∙◌, subst, inl, inr, append_assoc, append-nil}
 use Rattle.std.specs.Str.{IsUtf8}
+use Rattle.std.proofs.lemmas.List.Elements.{All-from_recursion}
 use Rattle.whiteread.specs.Lines.{lines_of}
 use Rattle.line_job.specs.Ends.{Seen, SourceState, SinkState}
 use Rattle.line_job.specs.Rules.{AreKept, AreAllKept, KeepsLine}
@@ -8,46 +9,53 @@ use Rattle.line_job.specs.Told.{RunsTold}
 use Rattle.row_format.specs.Columns.{columns_of}
 use Rattle.row_format.specs.Planned.{planned_text}
 use Rattle.header_lines.specs.Message.{cause_message}
+use Rattle.header_lines.specs.Heading.{first_next}
 use Rattle.translation.specs.declared.target.Target.{Target}
-use Rattle.plan_jobs.specs.Plan.{PlanStage, kinds_next, format_next, planned, plan_rules, Ends as PlanEnds}
+use Rattle.plan_jobs.specs.Plan.{PlanStage, heading_next, format_next, planned, plan_rules, after as after_plan, Ends as PlanEnds}
 use Rattle.plan_jobs.specs.Scan.{ScanStage, scan_rules, tab_joined, Keeps as KeepsTokens}
-use Rattle.plan_jobs.specs.Translate.{TranslateStage, kinds_next as target_next, format_next as translated_next, translated_to, translate_rules, Ends as TemplateEnds}
+use Rattle.plan_jobs.specs.Translate.{TranslateStage, heading_next as target_next, format_next as translated_next, translated_to, translate_rules, after as after_target, Ends as TemplateEnds}
 use Rattle.plan_jobs.specs.TranslateMessage.{translate_message}
 use Rattle.plan_jobs.specs.Written.{IsPlanOf, PlansAll, IsTranslationOf, TranslatesAll, AreScanned, ScansAll}
-use Rattle.plan_jobs.proofs.KeptLines.{maps, success, judged, not_judged, nothing, only_tail, two_lines}
+use Rattle.plan_jobs.proofs.KeptLines.{maps, success, judged, not_judged, nothing, only_tail}
+use Rattle.plan_jobs.proofs.Headings.{ReadsHeading, IsHeaded, headed_lines}
 
 -- plans
 
 plan_moves : (before : ℕ) (stage next : PlanStage) (lines : List (List ℕ)) (text : List ℕ) (last : PlanStage) → next ≡ stage → AreKept plan_rules before next lines text last → AreKept plan_rules before stage lines text last
 plan_moves before stage next lines text last is kept = subst (λ (s : PlanStage). AreKept plan_rules before s lines text last) is kept
 
-is_plan : (lines : List (List ℕ)) (text : List ℕ) → AreAllKept plan_rules 0 kinds_next lines text → IsPlanOf lines text
-is_plan lines text (owed, tail, last, kept, ends, e) =
-    let one = judged plan_rules 0 kinds_next lines owed tail last refl (λ never. never) kept ends in
-    let kinds = one.keeps.1.0 in
-    let two = judged plan_rules 1 (format_next kinds) one.others one.rest tail last refl (λ never. never) (plan_moves 1 (format_next kinds) one.next one.others one.rest last one.keeps.1.2 one.more) ends in
+reads_plan : ReadsHeading plan_rules after_plan
+reads_plan = record { judges = λ heading. refl; goes_on = λ heading tail ends. ends; keeps = λ heading number line text next keeps. keeps }
+
+headed_plan : (lines : List (List ℕ)) (text owed tail : List ℕ) (last : PlanStage) → IsHeaded plan_rules after_plan lines owed last → PlanEnds last tail → text ≡ owed ++ tail → IsPlanOf lines text
+headed_plan lines text owed tail last h ends e =
+    let two = judged plan_rules h.before (format_next h.fields) h.others owed tail last refl (λ never. never) h.kept ends in
     let elements = two.keeps.1.0 in
-    let plan : List ℕ = planned_text (columns_of elements) kinds in
-    let end = not_judged plan_rules 2 (planned plan) two.others two.rest last refl (plan_moves 2 (planned plan) two.next two.others two.rest last two.keeps.1.3 two.more) in
-    let none : owed ≡ [] = nothing owed one.first one.rest one.text_is one.keeps.0 (nothing one.rest two.first two.rest two.text_is two.keeps.0 end.0) in
+    let plan : List ℕ = planned_text (columns_of elements) h.fields.kinds in
+    let end = not_judged plan_rules (h.before + 1) (planned plan) two.others two.rest last refl (plan_moves (h.before + 1) (planned plan) two.next two.others two.rest last two.keeps.1.3 two.more) in
+    let none : owed ≡ [] = nothing owed two.first two.rest two.text_is two.keeps.0 end.0 in
     record {
-      kinds_line = one.line;
+      heading = h.heading;
+      fields = h.fields;
       format_line = two.line;
       others = two.others;
-      kinds = kinds;
       elements = elements;
-      lines_are = two_lines lines one.others two.others one.line two.line one.lines_are two.lines_are;
-      kinds_utf8 = one.utf8;
+      lines_are = h.lines_are ∙ ap (λ (ls : List (List ℕ)). h.heading ++ ls) two.lines_are;
+      heading_utf8 = All-from_recursion _ h.heading h.utf8;
       format_utf8 = two.utf8;
-      named = one.keeps.1.1;
+      says = h.says;
       spelled = two.keeps.1.1;
       plannable = two.keeps.1.2;
       text_is = only_tail text owed tail (plan ++ 10 ∷ []) e none (subst (λ (s : PlanStage). PlanEnds s tail) end.1 ends);
     }
 
-pub told_plans : (limit : ℕ) (input : Seen SourceState) (output errors : Seen SinkState) (status : ℕ) → RunsTold plan_rules kinds_next cause_message limit input output errors status → status ≡ 0 → PlansAll input output
+is_plan : (lines : List (List ℕ)) (text : List ℕ) → AreAllKept plan_rules 0 (heading_next first_next) lines text → IsPlanOf lines text
+is_plan lines text (owed, tail, last, kept, ends, e) = headed_plan lines text owed tail last (headed_lines plan_rules after_plan reads_plan lines owed tail last kept ends) ends e
+
+pub told_plans : (limit : ℕ) (input : Seen SourceState) (output errors : Seen SinkState) (status : ℕ) → RunsTold plan_rules (heading_next first_next) cause_message limit input output errors status → status ≡ 0 → PlansAll input output
 told_plans limit input output errors status told zero =
-    maps input.before.rest _ _ (λ bytes here. (here.0, (here.1.0, is_plan (lines_of bytes) here.1.0 here.1.1, here.1.2))) (success plan_rules kinds_next limit input output told.result told.runs (sym told.status_is ∙ zero))
+    maps input.before.rest _ _ (λ bytes here. (here.0, (here.1.0, is_plan (lines_of bytes) here.1.0 here.1.1, here.1.2)))
+    (success plan_rules (heading_next first_next) limit input output told.result told.runs (sym told.status_is ∙ zero))
 
 -- translations
 
@@ -55,35 +63,41 @@ template_moves : (before : ℕ) (stage next : TranslateStage) (lines : List (Lis
     → AreKept translate_rules before stage lines text last
 template_moves before stage next lines text last is kept = subst (λ (s : TranslateStage). AreKept translate_rules before s lines text last) is kept
 
-is_translation : (target : Target) (lines : List (List ℕ)) (text : List ℕ) → AreAllKept translate_rules 0 (target_next target) lines text → IsTranslationOf target lines text
-is_translation target lines text (owed, tail, last, kept, ends, e) =
-    let one = judged translate_rules 0 (target_next target) lines owed tail last refl (λ never. never) kept ends in
-    let kinds = one.keeps.1.0 in
-    let two = judged translate_rules 1 (translated_next target kinds) one.others one.rest tail last refl (λ never. never) (template_moves 1 (translated_next target kinds) one.next one.others one.rest last one.keeps.1.2 one.more) ends in
+reads_target : (target : Target) → ReadsHeading translate_rules (after_target target)
+reads_target target = record { judges = λ heading. refl; goes_on = λ heading tail ends. ends; keeps = λ heading number line text next keeps. keeps }
+
+headed_translation : (target : Target) (lines : List (List ℕ)) (text owed tail : List ℕ) (last : TranslateStage) → IsHeaded translate_rules (after_target target) lines owed last → TemplateEnds last tail → text ≡ owed ++ tail
+    → IsTranslationOf target lines text
+headed_translation target lines text owed tail last h ends e =
+    let two = judged translate_rules h.before (translated_next target h.fields) h.others owed tail last refl (λ never. never) h.kept ends in
     let template = two.keeps.1.1 in
-    let end = not_judged translate_rules 2 (translated_to template) two.others two.rest last refl (template_moves 2 (translated_to template) two.next two.others two.rest last two.keeps.1.4 two.more) in
-    let none : owed ≡ [] = nothing owed one.first one.rest one.text_is one.keeps.0 (nothing one.rest two.first two.rest two.text_is two.keeps.0 end.0) in
+    let end = not_judged translate_rules (h.before + 1) (translated_to template) two.others two.rest last refl (template_moves (h.before + 1) (translated_to template) two.next two.others two.rest last two.keeps.1.4 two.more) in
+    let none : owed ≡ [] = nothing owed two.first two.rest two.text_is two.keeps.0 end.0 in
     record {
-      kinds_line = one.line;
+      heading = h.heading;
+      fields = h.fields;
       format_line = two.line;
       others = two.others;
-      kinds = kinds;
       elements = two.keeps.1.0;
       template = template;
-      lines_are = two_lines lines one.others two.others one.line two.line one.lines_are two.lines_are;
-      kinds_utf8 = one.utf8;
+      lines_are = h.lines_are ∙ ap (λ (ls : List (List ℕ)). h.heading ++ ls) two.lines_are;
+      heading_utf8 = All-from_recursion _ h.heading h.utf8;
       format_utf8 = two.utf8;
-      named = one.keeps.1.1;
+      says = h.says;
       spelled = two.keeps.1.2;
       template_is = two.keeps.1.3;
       text_is = only_tail text owed tail (template ++ 10 ∷ []) e none (subst (λ (s : TranslateStage). TemplateEnds s tail) end.1 ends);
     }
 
-pub told_translates : (target : Target) (limit : ℕ) (input : Seen SourceState) (output errors : Seen SinkState) (status : ℕ) → RunsTold translate_rules (target_next target) translate_message limit input output errors status → status ≡ 0
-    → TranslatesAll target input output
+is_translation : (target : Target) (lines : List (List ℕ)) (text : List ℕ) → AreAllKept translate_rules 0 (target_next target first_next) lines text → IsTranslationOf target lines text
+is_translation target lines text (owed, tail, last, kept, ends, e) =
+    headed_translation target lines text owed tail last (headed_lines translate_rules (after_target target) (reads_target target) lines owed tail last kept ends) ends e
+
+pub told_translates : (target : Target) (limit : ℕ) (input : Seen SourceState) (output errors : Seen SinkState) (status : ℕ) → RunsTold translate_rules (target_next target first_next) translate_message limit input output errors status
+    → status ≡ 0 → TranslatesAll target input output
 told_translates target limit input output errors status told zero =
     maps input.before.rest _ _ (λ bytes here. (here.0, (here.1.0, is_translation target (lines_of bytes) here.1.0 here.1.1, here.1.2)))
-    (success translate_rules (target_next target) limit input output told.result told.runs (sym told.status_is ∙ zero))
+    (success translate_rules (target_next target first_next) limit input output told.result told.runs (sym told.status_is ∙ zero))
 
 -- tokens
 

@@ -6,7 +6,7 @@ use line_job::{Cause, Message, line_message, numbered_message};
 /// Why a line is refused by the job that translates. Lines and elements count from 1.
 #[derive(Clone, Copy, Debug, PartialEq, Eq)]
 pub enum TranslateCause {
-    /// The header line is missing, or it is a kinds line with a word that names no kind.
+    /// This header line is missing, or it doesn't keep its rule: `#2`, kinds or names.
     Header { line: u64 },
     /// The format line is no printf format.
     SourceFormat { line: u64 },

@@ -1,29 +1,40 @@
-// The job that plans: it judges kinds and a format, reads the rest, and owes the planned text at the end.
+// The job that plans: it judges the lines up to the format, reads the rest, and owes the planned text at the end.
 ghost use Rattle.std.specs.Prelude.{◌≡◌, [], true, IfOk};
 ghost use Rattle.line_job.specs.Ends.{source_seen, sink_seen};
 ghost use Rattle.line_job.specs.Refusal.{IfRefused};
 ghost use Rattle.line_job.specs.Told.{RunsTold};
 ghost use Rattle.header_lines.specs.Message.{cause_message};
-ghost use Rattle.plan_jobs.specs.Plan.{PlanStage, kinds_next, plan_rules, judges, Keeps, Refuses};
+ghost use Rattle.header_lines.specs.Heading.{first_next};
+ghost use Rattle.header_lines.specs.Read.{headed_of};
+ghost use Rattle.plan_jobs.specs.Plan.{PlanStage, heading_next, after, plan_rules, judges, Keeps, Refuses};
 ghost use Rattle.plan_jobs.specs.Written.{PlansAll};
 ghost use Rattle.plan_jobs.specs.Inner.State.{stage_of};
 ghost use Rattle.plan_jobs.specs.Inner.PlanClear.{plan_clear};
 
 use crate::push::push_line;
 use edge_io::{Sink, Source};
-use header_lines::{LineCause, read_format, read_kinds};
+use header_lines::{Fields, Headed, Heading, LineCause, read_format, read_heading};
 use line_job::{LineJob, Refusal, run_told};
 use row_plan::RowPlan;
 use std::alloc::Global;
 use std::mem;
-use values::Kind;
 
 /// Which line comes next, and what those before it said.
 #[derive(Drop)]
 enum State {
-    Kinds,
-    Format(Vec<Kind>),
+    Heading(Heading),
+    Format(Fields),
     Planned(RowPlan),
+}
+
+/// Where the job stands after a line in front of the format line.
+fn after(headed: Headed) -> State
+    ensures { stage_of result ≡ after (headed_of headed) }
+{
+    match headed {
+        Headed::More(heading) => State::Heading(heading),
+        Headed::Format(fields) => State::Format(fields),
+    }
 }
 
 /// Reads the header line that comes next.
@@ -38,8 +49,11 @@ fn read_header(
     ensures refused { IfRefused result (Refuses (stage_of state) number line.now) }
 {
     match state {
-        State::Kinds => Ok(State::Format(read_kinds(alloc, number, line)?)),
-        State::Format(kinds) => Ok(State::Planned(read_format(alloc, number, &kinds, line)?)),
+        State::Heading(heading) => Ok(after(read_heading(alloc, heading, number, line)?)),
+        State::Format(fields) => {
+            let plan = read_format(alloc, number, &fields.kinds, line)?;
+            Ok(State::Planned(plan))
+        }
         State::Planned(plan) => Ok(State::Planned(plan)),
     }
 }
@@ -63,7 +77,7 @@ impl LineJob for Plan {
 
     fn judges(&self) -> bool {
         match &self.state {
-            State::Kinds => true,
+            State::Heading(_) => true,
             State::Format(_) => true,
             State::Planned(_) => false,
         }
@@ -76,7 +90,7 @@ impl LineJob for Plan {
         line: &str,
         _out: &mut String,
     ) -> Result<(), Refusal<LineCause>> {
-        let state = mem::replace(&mut self.state, State::Kinds);
+        let state = mem::replace(&mut self.state, State::Heading(Heading::First));
         self.state = read_header(alloc, state, number, line)?;
         Ok(())
     }
@@ -88,8 +102,12 @@ impl LineJob for Plan {
         out: &mut String,
     ) -> Result<(), Refusal<LineCause>> {
         match &self.state {
-            State::Kinds => Err(Refusal::Line(LineCause::Header { line: 1 })),
-            State::Format(_) => Err(Refusal::Line(LineCause::Header { line: 2 })),
+            State::Heading(heading) => Err(Refusal::Line(LineCause::Header {
+                line: heading.number(),
+            })),
+            State::Format(fields) => Err(Refusal::Line(LineCause::Header {
+                line: fields.version.number_in(2),
+            })),
             State::Planned(plan) => push_line(out, plan.format_text()),
         }
     }
@@ -97,8 +115,8 @@ impl LineJob for Plan {
     ghost clear = { plan_clear };
 }
 
-/// Plans the format of the second line over the kinds of the first, and writes the planned text at the end of the input, which is read
-/// and not judged from the third line on. Answers the exit status, and tells a refusal on the error output.
+/// Plans the format over the kinds in front of it, and writes the planned text at the end of the input, which is read and not
+/// judged behind the format. Answers the exit status, and tells a refusal on the error output.
 pub fn run_plan<S: Source, K: Sink, E: Sink>(
     alloc: Global,
     input: &mut S,
@@ -106,17 +124,17 @@ pub fn run_plan<S: Source, K: Sink, E: Sink>(
     errors: &mut E,
     limit: u64,
 ) -> u8
-    // Status 0: all was read, and the planned text of the first two lines was written.
+    // Status 0: all was read, and the planned text of the format was written.
     ensures planned { result ≡ 0 → PlansAll (source_seen S.supply input.old input.new) (sink_seen K.held K.faults output.old output.new) }
 
     // Every status is that of a result of the job, and its message is told.
-    ensures told { RunsTold plan_rules kinds_next cause_message limit (source_seen S.supply input.old input.new) (sink_seen K.held K.faults output.old output.new) (sink_seen E.held E.faults errors.old errors.new) result }
+    ensures told { RunsTold plan_rules (heading_next first_next) cause_message limit (source_seen S.supply input.old input.new) (sink_seen K.held K.faults output.old output.new) (sink_seen E.held E.faults errors.old errors.new) result }
 
     // Success tells nothing.
     ensures quiet { result ≡ 0 → errors.new ≡ errors.old }
 {
     let mut job = Plan {
-        state: State::Kinds,
+        state: State::Heading(Heading::First),
     };
     run_told(alloc, &mut job, input, output, errors, limit)
 }

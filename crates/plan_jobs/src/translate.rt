@@ -1,14 +1,16 @@
-// The job that translates: it judges kinds and a format, reads the rest, and owes the template at the end.
+// The job that translates: it judges the lines up to the format, reads the rest, and owes the template at the end.
 ghost use Rattle.std.specs.Prelude.{◌≡◌, [], List, true, IfOk, Ok, string_bytes};
 ghost use Rattle.sprintf.specs.Grammar.{IsFormat};
 ghost use Rattle.sprintf.specs.declared.parser.FormatElement.{FormatElement};
 ghost use Rattle.line_job.specs.Ends.{source_seen, sink_seen};
 ghost use Rattle.line_job.specs.Refusal.{IfRefused};
 ghost use Rattle.line_job.specs.Told.{RunsTold};
-ghost use Rattle.header_lines.specs.Headers.{IsKindsLine};
+ghost use Rattle.header_lines.specs.Heading.{Headed as AnyHeaded, first_next, KeepsHeading};
+ghost use Rattle.header_lines.specs.Read.{heading_of, headed_of};
 ghost use Rattle.translation.specs.Translated.{translated};
 ghost use Rattle.plan_jobs.specs.TranslateMessage.{translate_message};
-ghost use Rattle.plan_jobs.specs.Translate.{TranslateStage, kinds_next, translate_rules, judges, Keeps, Refuses, RefusesKinds, RefusesFormat};
+ghost use Rattle.plan_jobs.specs.declared.cause.TranslateCause.TheVariants.{Header};
+ghost use Rattle.plan_jobs.specs.Translate.{TranslateStage, heading_next, after, translate_rules, judges, Keeps, Refuses, RefusesFormat};
 ghost use Rattle.plan_jobs.specs.Written.{TranslatesAll};
 ghost use Rattle.plan_jobs.specs.Inner.TranslateState.{stage_of};
 ghost use Rattle.plan_jobs.specs.Inner.TranslateClear.{translate_clear};
@@ -16,7 +18,7 @@ ghost use Rattle.plan_jobs.specs.Inner.TranslateClear.{translate_clear};
 use crate::TranslateCause;
 use crate::push::push_line;
 use edge_io::{Sink, Source};
-use header_lines::read_kinds;
+use header_lines::{Fields, Headed, Heading, read_heading};
 use line_job::{LineJob, Refusal, run_told};
 use sprintf::PrintfError;
 use sprintf::parser::parse_format_string;
@@ -28,18 +30,33 @@ use values::Kind;
 /// Which line comes next, and what those before it said.
 #[derive(Drop)]
 enum State {
-    Kinds(Target),
-    Format(Target, Vec<Kind>),
+    Heading(Target, Heading),
+    Format(Target, Fields),
     Translated(String),
 }
 
-/// Reads a kinds line.
-fn kinds_of(alloc: Global, number: u64, line: &str) -> Result<Vec<Kind>, Refusal<TranslateCause>>
-    ensures ok { IfOk result (λ kinds. IsKindsLine line.now kinds.items) }
-    ensures refused { IfRefused result (RefusesKinds number line.now) }
+/// Where the job stands after a line in front of the format line.
+fn after(target: Target, headed: Headed) -> State
+    ensures { stage_of result ≡ after target (headed_of headed) }
 {
-    match read_kinds(alloc, number, line) {
-        Ok(kinds) => Ok(kinds),
+    match headed {
+        Headed::More(heading) => State::Heading(target, heading),
+        Headed::Format(fields) => State::Format(target, fields),
+    }
+}
+
+/// Reads a line in front of the format line.
+fn read_front(
+    alloc: Global,
+    heading: Heading,
+    number: u64,
+    line: &str,
+) -> Result<Headed, Refusal<TranslateCause>>
+    ensures kept { IfOk result (λ headed. KeepsHeading (heading_of heading) line.now (headed_of headed)) }
+    ensures refused { IfRefused result (λ why. ((headed : AnyHeaded) → ¬ KeepsHeading (heading_of heading) line.now headed) × (why ≡ Header number)) }
+{
+    match read_heading(alloc, heading, number, line) {
+        Ok(headed) => Ok(headed),
         Err(Refusal::Line(_)) => Err(Refusal::Line(TranslateCause::Header { line: number })),
         Err(Refusal::NoMemory) => Err(Refusal::NoMemory),
     }
@@ -85,9 +102,12 @@ fn read_header(
     ensures refused { IfRefused result (Refuses (stage_of state) number line.now) }
 {
     match state {
-        State::Kinds(target) => Ok(State::Format(target, kinds_of(alloc, number, line)?)),
-        State::Format(target, kinds) => {
-            let template = template_of(alloc, target, number, &kinds, line)?;
+        State::Heading(target, heading) => {
+            let headed = read_front(alloc, heading, number, line)?;
+            Ok(after(target, headed))
+        }
+        State::Format(target, fields) => {
+            let template = template_of(alloc, target, number, &fields.kinds, line)?;
             Ok(State::Translated(template))
         }
         State::Translated(template) => Ok(State::Translated(template)),
@@ -113,7 +133,7 @@ impl LineJob for Translate {
 
     fn judges(&self) -> bool {
         match &self.state {
-            State::Kinds(_) => true,
+            State::Heading(_, _) => true,
             State::Format(_, _) => true,
             State::Translated(_) => false,
         }
@@ -126,7 +146,10 @@ impl LineJob for Translate {
         line: &str,
         _out: &mut String,
     ) -> Result<(), Refusal<TranslateCause>> {
-        let state = mem::replace(&mut self.state, State::Kinds(Target::Strfmt));
+        let state = mem::replace(
+            &mut self.state,
+            State::Heading(Target::Strfmt, Heading::First),
+        );
         self.state = read_header(alloc, state, number, line)?;
         Ok(())
     }
@@ -138,8 +161,12 @@ impl LineJob for Translate {
         out: &mut String,
     ) -> Result<(), Refusal<TranslateCause>> {
         match &self.state {
-            State::Kinds(_) => Err(Refusal::Line(TranslateCause::Header { line: 1 })),
-            State::Format(_, _) => Err(Refusal::Line(TranslateCause::Header { line: 2 })),
+            State::Heading(_, heading) => Err(Refusal::Line(TranslateCause::Header {
+                line: heading.number(),
+            })),
+            State::Format(_, fields) => Err(Refusal::Line(TranslateCause::Header {
+                line: fields.version.number_in(2),
+            })),
             State::Translated(template) => push_line(out, template.as_str()),
         }
     }
@@ -147,8 +174,8 @@ impl LineJob for Translate {
     ghost clear = { translate_clear };
 }
 
-/// Translates the format of the second line over the kinds of the first, and writes the template at the end of the input, which is
-/// read and not judged from the third line on. Answers the exit status, and tells a refusal on the error output.
+/// Translates the format over the kinds in front of it, and writes the template at the end of the input, which is read and not
+/// judged behind the format. Answers the exit status, and tells a refusal on the error output.
 pub fn run_translate<S: Source, K: Sink, E: Sink>(
     alloc: Global,
     target: Target,
@@ -157,17 +184,17 @@ pub fn run_translate<S: Source, K: Sink, E: Sink>(
     errors: &mut E,
     limit: u64,
 ) -> u8
-    // Status 0: all was read, and the template that the first two lines are translated to was written.
+    // Status 0: all was read, and the template to which the format is translated was written.
     ensures translated { result ≡ 0 → TranslatesAll target (source_seen S.supply input.old input.new) (sink_seen K.held K.faults output.old output.new) }
 
     // Every status is that of a result of the job, and its message is told.
-    ensures told { RunsTold translate_rules (kinds_next target) translate_message limit (source_seen S.supply input.old input.new) (sink_seen K.held K.faults output.old output.new) (sink_seen E.held E.faults errors.old errors.new) result }
+    ensures told { RunsTold translate_rules (heading_next target first_next) translate_message limit (source_seen S.supply input.old input.new) (sink_seen K.held K.faults output.old output.new) (sink_seen E.held E.faults errors.old errors.new) result }
 
     // Success tells nothing.
     ensures quiet { result ≡ 0 → errors.new ≡ errors.old }
 {
     let mut job = Translate {
-        state: State::Kinds(target),
+        state: State::Heading(target, Heading::First),
     };
     run_told(alloc, &mut job, input, output, errors, limit)
 }

@@ -16,7 +16,7 @@ use Rattle.translation.specs.Table.{translated_field}
 use Rattle.translation.specs.Translated.{in_front, field_in_front, translated_from, translated}
 use Rattle.plan_jobs.specs.declared.cause.TranslateCause.{TranslateCause}
 use Rattle.plan_jobs.specs.declared.cause.TranslateCause.TheVariants.{Element}
-use Rattle.plan_jobs.specs.Translate.{TranslateStage, kinds_next, format_next, translated_to, Keeps, Refuses, RefusesFormat, Ends, Misses, translate_rules}
+use Rattle.plan_jobs.specs.Translate.{TranslateStage, heading_next, after, format_next, translated_to, Keeps, Refuses, RefusesFormat, Ends, Misses, translate_rules}
 
 -- elements that say the same are translated alike
 
@@ -71,35 +71,35 @@ format_apart target number kinds line template elements why spelled is (inr (oth
 -- the rules
 
 one_text : (stage : TranslateStage) (number : ℕ) (line a b : List ℕ) (s t : TranslateStage) → Keeps stage number line a s → Keeps stage number line b t → (a ≡ b) × (s ≡ t)
-one_text (kinds_next target) number line a b s t (e, (kinds, is, n)) (f, (others, too, m)) =
-    (e ∙ sym f, n ∙ ap (format_next target) (header_lines_are_clear.one_thing.kinds line kinds others is too) ∙ sym m)
-one_text (format_next target kinds) number line a b s t (e, (elements, template, spelled, is, n)) (f, (others, another, also, too, m)) =
-    (e ∙ sym f, n ∙ ap translated_to (one_template target kinds line elements others template another spelled also is too) ∙ sym m)
+one_text (heading_next target heading) number line a b s t (e, (headed, is, n)) (f, (other, too, m)) =
+    (e ∙ sym f, n ∙ ap (after target) (header_lines_are_clear.one_thing.heading heading line headed other is too) ∙ sym m)
+one_text (format_next target fields) number line a b s t (e, (elements, template, spelled, is, n)) (f, (others, another, also, too, m)) =
+    (e ∙ sym f, n ∙ ap translated_to (one_template target fields.kinds line elements others template another spelled also is too) ∙ sym m)
 one_text (translated_to template) number line a b s t h k = absurd h
 
 one_cause : (stage : TranslateStage) (number : ℕ) (line : List ℕ) (why other : TranslateCause) → Refuses stage number line why → Refuses stage number line other → why ≡ other
-one_cause (kinds_next target) number line why other h k = h.1 ∙ sym k.1
-one_cause (format_next target kinds) number line why other h k = one_format_cause target number kinds line why other h k
+one_cause (heading_next target heading) number line why other h k = h.1 ∙ sym k.1
+one_cause (format_next target fields) number line why other h k = one_format_cause target number fields.kinds line why other h k
 one_cause (translated_to template) number line why other h k = absurd h
 
 never_both : (stage : TranslateStage) (number : ℕ) (line a : List ℕ) (next : TranslateStage) (why : TranslateCause) → Keeps stage number line a next → Refuses stage number line why → ⊥
-never_both (kinds_next target) number line a next why (e, (kinds, is, n)) k = k.0 kinds is
-never_both (format_next target kinds) number line a next why (e, (elements, template, spelled, is, n)) k = format_apart target number kinds line template elements why spelled is k
+never_both (heading_next target heading) number line a next why (e, (headed, is, n)) k = k.0 headed is
+never_both (format_next target fields) number line a next why (e, (elements, template, spelled, is, n)) k = format_apart target number fields.kinds line template elements why spelled is k
 never_both (translated_to template) number line a next why h k = k
 
 one_end : (stage : TranslateStage) (a b : List ℕ) → Ends stage a → Ends stage b → a ≡ b
-one_end (kinds_next target) a b h k = absurd h
-one_end (format_next target kinds) a b h k = absurd h
+one_end (heading_next target heading) a b h k = absurd h
+one_end (format_next target fields) a b h k = absurd h
 one_end (translated_to template) a b h k = h ∙ sym k
 
 one_lack : (stage : TranslateStage) (before : ℕ) (why other : TranslateCause) → Misses stage before why → Misses stage before other → why ≡ other
-one_lack (kinds_next target) before why other h k = h ∙ sym k
-one_lack (format_next target kinds) before why other h k = h ∙ sym k
+one_lack (heading_next target heading) before why other h k = h ∙ sym k
+one_lack (format_next target fields) before why other h k = h ∙ sym k
 one_lack (translated_to template) before why other h k = absurd h
 
 no_end_is_missed : (stage : TranslateStage) (before : ℕ) (a : List ℕ) (why : TranslateCause) → Ends stage a → Misses stage before why → ⊥
-no_end_is_missed (kinds_next target) before a why h k = h
-no_end_is_missed (format_next target kinds) before a why h k = h
+no_end_is_missed (heading_next target heading) before a why h k = h
+no_end_is_missed (format_next target fields) before a why h k = h
 no_end_is_missed (translated_to template) before a why h k = k
 
 pub translate_clear : AreClear translate_rules
