@@ -12,16 +12,17 @@ use Rattle.translation.specs.declared.target.Target.{Target}
 use Rattle.translation.specs.declared.target.Target.TheVariants.{Strfmt, Formatx}
 use Rattle.line_job.specs.Ends.{Seen, SourceState, SinkState, Took}
 use Rattle.line_job.specs.Told.{RunsTold}
+use Rattle.header_lines.specs.Heading.{first_next}
 use Rattle.header_lines.specs.Message.{cause_message}
-use Rattle.plan_jobs.specs.Plan.{plan_rules, kinds_next as plan_start}
+use Rattle.plan_jobs.specs.Plan.{plan_rules, heading_next as plan_heading}
 use Rattle.plan_jobs.specs.Scan.{scan_rules}
-use Rattle.plan_jobs.specs.Translate.{translate_rules, kinds_next as translate_start}
+use Rattle.plan_jobs.specs.Translate.{translate_rules, heading_next as translate_heading}
 use Rattle.plan_jobs.specs.TranslateMessage.{translate_message}
 use Rattle.sample_job.specs.Summary.{IsSummary}
 use Rattle.sample_job.specs.Samples.{Samples}
 use Rattle.reformat.specs.declared.command.Command.{Command}
 use Rattle.reformat.specs.declared.command.Command.TheVariants.{Rewrite, Plan, Scan, Translate, Sample}
-use Rattle.rewriting.specs.Rules.{rewrite_rules, kinds_next}
+use Rattle.rewriting.specs.Rules.{rewrite_rules, heading_next}
 use Rattle.reformat.specs.Run.{rewrite_words, plan_words, scan_words, target_word, translate_words, sample_words, sample_limit, IsCommand, input_limit}
 use Rattle.reformat.specs.Inner.Said.{IsSaid, IsWithin, Does, Leaves}
 
@@ -40,7 +41,7 @@ said_within words (Translate target) is = tt
 said_within words (Sample n) is = is.0
 
 pub said_rewrite : (words : List (List ℕ)) (command : Command) (input : Seen SourceState) (output errors : Seen SinkState) (status : ℕ) → IsSaid words command → Does command input output errors status → words ≡ rewrite_words
-    → RunsTold rewrite_rules kinds_next cause_message input_limit input output errors status
+    → RunsTold rewrite_rules (heading_next first_next) cause_message input_limit input output errors status
 said_rewrite words Rewrite input output errors status is does e = does
 said_rewrite words Plan input output errors status is does e = absurd (cc)
 said_rewrite words (Scan format) input output errors status is does e = absurd (cc)
@@ -48,7 +49,7 @@ said_rewrite words (Translate target) input output errors status is does e = abs
 said_rewrite words (Sample n) input output errors status is does e = absurd (cc (is.1))
 
 pub said_plan : (words : List (List ℕ)) (command : Command) (input : Seen SourceState) (output errors : Seen SinkState) (status : ℕ) → IsSaid words command → Does command input output errors status → words ≡ plan_words
-    → RunsTold plan_rules plan_start cause_message input_limit input output errors status
+    → RunsTold plan_rules (plan_heading first_next) cause_message input_limit input output errors status
 said_plan words Rewrite input output errors status is does e = absurd (cc)
 said_plan words Plan input output errors status is does e = does
 said_plan words (Scan format) input output errors status is does e = absurd (cc)
@@ -74,14 +75,14 @@ one_target Formatx Strfmt e = absurd (cc)
 one_target Formatx Formatx e = refl
 
 pub said_translate : (words : List (List ℕ)) (command : Command) (input : Seen SourceState) (output errors : Seen SinkState) (status : ℕ) → IsSaid words command → Does command input output errors status → (wanted : Target) → words ≡ translate_words wanted
-    → RunsTold translate_rules (translate_start wanted) translate_message input_limit input output errors status
+    → RunsTold translate_rules (translate_heading wanted first_next) translate_message input_limit input output errors status
 said_translate words Rewrite input output errors status is does wanted e = absurd (cc)
 said_translate words Plan input output errors status is does wanted e = absurd (cc)
 said_translate words (Scan format) input output errors status is does wanted e = absurd (cc)
 said_translate words (Translate target) input output errors status is does wanted e =
     let both : translate_words target ≡ translate_words wanted = sym is ∙ e in
     let same : target_word target ≡ target_word wanted = cc in
-    subst (λ (t : Target). RunsTold translate_rules (translate_start t) translate_message input_limit input output errors status) (one_target target wanted same) does
+    subst (λ (t : Target). RunsTold translate_rules (translate_heading t first_next) translate_message input_limit input output errors status) (one_target target wanted same) does
 said_translate words (Sample n) input output errors status is does wanted e = absurd (cc (is.1))
 
 pub said_sample : (words : List (List ℕ)) (command : Command) (input : Seen SourceState) (output errors : Seen SinkState) (status : ℕ) → IsSaid words command → Does command input output errors status → (m : ℕ) → m ≤ sample_limit → words ≡ sample_words m

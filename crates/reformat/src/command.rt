@@ -3,12 +3,13 @@ ghost use Rattle.std.specs.Prelude.{◌≡◌, ◌<◌, ◌≤◌, ◌≢◌, �
 ghost use Rattle.std.specs.Str.{byte};
 ghost use Rattle.line_job.specs.Ends.{Tells, Took, source_seen, sink_seen};
 ghost use Rattle.line_job.specs.Told.{RunsTold};
+ghost use Rattle.header_lines.specs.Heading.{first_next};
 ghost use Rattle.header_lines.specs.Message.{cause_message};
-ghost use Rattle.rewriting.specs.Rules.{rewrite_rules, kinds_next};
+ghost use Rattle.rewriting.specs.Rules.{rewrite_rules, heading_next};
 ghost use Rattle.rewriting.specs.Reformats.{WritesAll, Completes};
-ghost use Rattle.plan_jobs.specs.Plan.{plan_rules, kinds_next as plan_start};
+ghost use Rattle.plan_jobs.specs.Plan.{plan_rules, heading_next as plan_heading};
 ghost use Rattle.plan_jobs.specs.Scan.{scan_rules};
-ghost use Rattle.plan_jobs.specs.Translate.{translate_rules, kinds_next as translate_start};
+ghost use Rattle.plan_jobs.specs.Translate.{translate_rules, heading_next as translate_heading};
 ghost use Rattle.plan_jobs.specs.TranslateMessage.{translate_message};
 ghost use Rattle.plan_jobs.specs.Written.{PlansAll, ScansAll, TranslatesAll};
 ghost use Rattle.sample_job.specs.Summary.{IsSummary};
@@ -151,19 +152,19 @@ pub fn run<S: Source, K: Sink, E: Sink>(
 
     // Every status of `rewrite` is that of a result of the job, and its message is told.
     ensures job { map string_bytes words.now ≡ rewrite_words
-        → RunsTold rewrite_rules kinds_next cause_message input_limit (source_seen S.supply input.old input.new) (sink_seen K.held K.faults output.old output.new) (sink_seen E.held E.faults errors.old errors.new) result }
+        → RunsTold rewrite_rules (heading_next first_next) cause_message input_limit (source_seen S.supply input.old input.new) (sink_seen K.held K.faults output.old output.new) (sink_seen E.held E.faults errors.old errors.new) result }
 
     // Input that keeps the rules and the limit is rewritten, where no fault was counted and memory was there.
     ensures complete { map string_bytes words.now ≡ rewrite_words
         → Completes input_limit (source_seen S.supply input.old input.new) (sink_seen K.held K.faults output.old output.new) result }
 
-    // Status 0 of `plan`: all was read, and the planned text of the first two lines was written.
+    // Status 0 of `plan`: all was read, and the planned text of the format was written.
     ensures planned { map string_bytes words.now ≡ plan_words → result ≡ 0
         → PlansAll (source_seen S.supply input.old input.new) (sink_seen K.held K.faults output.old output.new) }
 
     // Every status of `plan` is that of a result of the job that plans, and its message is told.
     ensures plans { map string_bytes words.now ≡ plan_words
-        → RunsTold plan_rules plan_start cause_message input_limit (source_seen S.supply input.old input.new) (sink_seen K.held K.faults output.old output.new) (sink_seen E.held E.faults errors.old errors.new) result }
+        → RunsTold plan_rules (plan_heading first_next) cause_message input_limit (source_seen S.supply input.old input.new) (sink_seen K.held K.faults output.old output.new) (sink_seen E.held E.faults errors.old errors.new) result }
 
     // Status 0 of `scan`: all was read, and the tokens of each line were written.
     ensures scanned { (format : List ℕ) → map string_bytes words.now ≡ scan_words format → result ≡ 0
@@ -173,13 +174,13 @@ pub fn run<S: Source, K: Sink, E: Sink>(
     ensures scans { (format : List ℕ) → map string_bytes words.now ≡ scan_words format
         → RunsTold scan_rules (record { format = format }) cause_message input_limit (source_seen S.supply input.old input.new) (sink_seen K.held K.faults output.old output.new) (sink_seen E.held E.faults errors.old errors.new) result }
 
-    // Status 0 of `translate`: all was read, and the template that the first two lines are translated to was written.
+    // Status 0 of `translate`: all was read, and the template to which the format is translated was written.
     ensures translated { (target : Target) → map string_bytes words.now ≡ translate_words target → result ≡ 0
         → TranslatesAll target (source_seen S.supply input.old input.new) (sink_seen K.held K.faults output.old output.new) }
 
     // Every status of `translate` is that of a result of the job that translates, and its message is told.
     ensures translates { (target : Target) → map string_bytes words.now ≡ translate_words target
-        → RunsTold translate_rules (translate_start target) translate_message input_limit (source_seen S.supply input.old input.new) (sink_seen K.held K.faults output.old output.new) (sink_seen E.held E.faults errors.old errors.new) result }
+        → RunsTold translate_rules (translate_heading target first_next) translate_message input_limit (source_seen S.supply input.old input.new) (sink_seen K.held K.faults output.old output.new) (sink_seen E.held E.faults errors.old errors.new) result }
 
     // Status 0 of `sample`: the summary of what is written for a sample of so many rows was written.
     ensures sampled { (n : ℕ) → n ≤ sample_limit → map string_bytes words.now ≡ sample_words n → result ≡ 0
