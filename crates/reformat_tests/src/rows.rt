@@ -98,6 +98,46 @@ rewrite~u8 u8^%d-%d^printf^%s %d^1-2^~1~~line 5: template fault: WrongType^
 rewrite~u64^%.2i^printf^%%%d%%^9^~0~%9%^~
 rewrite~u8 u64^%u%%%u^printf^%*d|^3%5^~0~  5|^~";
 
+const NAMES: &str = "\
+rewrite~#2^u8 word^id name^%d:%s^strfmt^{name}={id} {0}^7:ab^~0~ab=7 7^~
+rewrite~ #2 ^u8 word^ id  name ^%d:%s^formatx^{name:>id$}^7:ab^~0~     ab^~
+rewrite~#2^u8 word^_ a_1^%d:%s^printf^%d %s^7:ab~0~7 ab^~
+rewrite~#2^^^x^printf^y^x^x^~0~y^y^~
+rewrite~#2^u8 word^id name^%d:%s^strfmt^{name}^x^~1~~line 7: not a row^
+rewrite~#2^u8 word^id name^%d:%s^strfmt^{name}^7:ab^8:c d^~1~ab^~line 8: not a row^
+rewrite~#2^u8^id^%d^strfmt^{Id}^7^~1~~line 7: template fault: KeyError^
+rewrite~u8^%d^strfmt^{id}^7^~1~~line 5: template fault: KeyError^
+rewrite~#2^u8 word^id id^%d:%s^strfmt^x^~1~~line 3: bad header^
+rewrite~#2^u8 word^id^%d:%s^strfmt^x^~1~~line 3: bad header^
+rewrite~#2^u8 word^id name other^%d:%s^strfmt^x^~1~~line 3: bad header^
+rewrite~#2^u8 word^1x y^%d:%s^strfmt^x^~1~~line 3: bad header^
+rewrite~#2^u8 word^id na-me^%d:%s^strfmt^x^~1~~line 3: bad header^
+rewrite~#2^u8 word^id é^%d:%s^strfmt^x^~1~~line 3: bad header^
+rewrite~#2 x^~1~~line 1: bad header^
+rewrite~#2^~1~~line 2: bad header^
+rewrite~#2^u128^id^~1~~line 2: bad header^
+rewrite~#2^u8^~1~~line 3: bad header^
+rewrite~#2^u8^id^~1~~line 4: bad header^
+rewrite~#2^u8 word^id name^%y^~1~~line 4: not a printf format^
+rewrite~#2^word^id^%.3s^~1~~line 4: field 1: lossy^
+rewrite~#2^u8^id^%d^~1~~line 5: bad header^
+rewrite~#2^u8^id^%d^c^~1~~line 5: bad header^
+rewrite~#2^u8^id^%d^printf^~1~~line 6: bad header^
+rewrite~#2^u8^id^%d^printf^%^~1~~line 6: not a printf template^
+plan~#2^u8 word^id name^%d:%s^~0~{d}:{s}^~
+plan~#2^u8 word^id name^%d:%s^anything~0~{d}:{s}^~
+plan~#2^u8 word^id id^%d:%s^~1~~line 3: bad header^
+plan~#2^u8^id^~1~~line 4: bad header^
+translate strfmt~#2^u8^id^%o^~0~{0:o}^~
+translate formatx~#2^u8^id^%o^~1~~line 4: element 1: no translation^
+translate formatx~#2^u8^id^%y^~1~~line 4: not a printf format^";
+
+#[test]
+fn names_fields(rt: HostRuntime) -> Result<(), Fail> {
+    run_table(&rt, rt.alloc(), NAMES, 4096)?;
+    run_table(&rt, rt.alloc(), NAMES, 1)
+}
+
 #[test]
 fn rewrites_rows(rt: HostRuntime) -> Result<(), Fail> {
     run_table(&rt, rt.alloc(), ROWS, 4096)
