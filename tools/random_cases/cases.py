@@ -1,7 +1,6 @@
 """Random cases: headers with rows, and whole inputs."""
 
 import dataclasses
-import random
 
 from random_cases.printf import GREATEST_I32, KINDS, NUMBERS, Field, TooWide
 from random_cases.printf import doubled, fits, format_of, greatest_length, refusal_of, row_of, stop_of
@@ -42,7 +41,7 @@ def some_field(chance, kind):
     conversion = chance.choice(right if chance.random() < 0.985 else "diouxXpcsCSeEfFgG")
     flags = some_text(chance, "-+ 0#", 2) if chance.random() < 0.7 else some_text(chance, "0#", 3)
     precision = ""
-    if chance.random() < (0.01 if kind == "word" else 0.1):
+    if chance.random() < (0.03 if kind == "word" else 0.1):
         precision = "." + chance.choice(["", "0", "3", "2147483647", "*" if chance.random() < 0.2 else "6"])
     return "%" + flags + some_width(chance, kind, conversion, flags) + precision + chance.choice(LENGTHS) + conversion
 
@@ -115,7 +114,8 @@ def some_pieces(chance, dialect, kinds, items):
 
 @dataclasses.dataclass(frozen=True)
 class Case:
-    """A header with rows; `changed` is lines that may be rows, `seed` decides places and sizes."""
+    """A header with rows. `changed` is lines that may be rows, `behind` what follows line 2 where nothing judges it, and `seed`
+    decides places and sizes."""
 
     kinds: tuple
     items: tuple
@@ -123,6 +123,7 @@ class Case:
     changed: tuple
     dialect: str
     pieces: tuple
+    behind: bytes
     seed: int
 
     @property
@@ -130,9 +131,7 @@ class Case:
         return format_of("".join(self.items))
 
     def front(self):
-        """Lines 1 and 2, and at times something behind them that nothing judges."""
-        behind = random.Random(self.seed).choice([b"", b"\xff\n\0", b"u8", b"\n" * 5000])
-        return f"{' '.join(self.kinds)}\n{''.join(self.items)}\n".encode() + behind
+        return f"{' '.join(self.kinds)}\n{''.join(self.items)}\n".encode() + self.behind
 
     def headers(self, dialect="printf", template=None):
         lines = [" ".join(self.kinds), "".join(self.items), dialect, "".join(self.items) if template is None else template]
@@ -154,6 +153,7 @@ class Case:
         yield from without_chunks(self, "values")
         yield from without_chunks(self, "changed")
         yield from without_chunks(self, "pieces")
+        yield from without_chunks(self, "behind")
         yield from without_a_field(self)
         yield from without_chunks(self, "items")
         yield from without_chunks(self, "kinds")
@@ -200,7 +200,6 @@ class Input:
 
     words: tuple
     data: bytes
-    seed: int
 
     def simpler(self):
         yield from without_chunks(self, "data")
@@ -214,7 +213,8 @@ def some_case(chance, rows):
     if chance.random() < 0.02:
         kinds = kinds[1:] if chance.random() < 0.5 else kinds + ["u8"]
     dialect = chance.choice(DIALECTS)
-    case = Case(tuple(kinds), tuple(items), (), (), dialect, tuple(some_pieces(chance, dialect, kinds, items)), chance.getrandbits(32))
+    pieces, behind = some_pieces(chance, dialect, kinds, items), chance.choice([b"", b"\xff\n\0", b"u8", b"\n" * 5000])
+    case = Case(tuple(kinds), tuple(items), (), (), dialect, tuple(pieces), behind, chance.getrandbits(32))
     if not case.is_readable():
         return case
     values = tuple(tuple(map(lambda *it: some_value(chance, *it), case.form.fields, kinds)) for _ in range(rows))
@@ -222,6 +222,13 @@ def some_case(chance, rows):
     printed = case.rows() or ["7", ""]
     changed = tuple(changed_text(chance, chance.choice(printed), LETTERS + "   \t\r") for _ in range(rows))
     return dataclasses.replace(case, changed=changed)
+
+
+def some_scan(chance):
+    """A scanning format, at times one that ends early."""
+    fields = ["{d}", "{2d}", "{0x}", "{x}", "{f}", "{3f}", "{s}", "{}", "{*s}", "{[a-f0-9]}", "{[^ ,]}", "{[]-]}", "{e}"]
+    fields += ["{/[a-z]+/}", "{/(\\d+)-?/}", "{/(a|b)*/}", "{/(/}", "{5}", "{d", "{/a", "{{", "}}", "}", "{[", "é", " ", "-", "a"]
+    return "".join(chance.choice(fields) for _ in range(chance.randint(0, 6)))
 
 
 def some_input(chance):
@@ -233,8 +240,8 @@ def some_input(chance):
     data = case.headers(case.dialect, template) + "".join(it + "\n" for it in case.rows() or case.changed).encode()
     for _ in range(chance.choice([0, 1, 1, 2, 3])):
         data = changed_bytes(chance, data)
-    words = chance.choice([["rewrite"]] * 6 + [["plan"], ["scan", chance.choice(["{d}-{d}", "{s}", "{} {x}", "{[a-z]}{*s}", "{/a+/}", "", "x"])]])
-    return Input(tuple(words), data, chance.getrandbits(32))
+    words = chance.choice([["rewrite"]] * 6 + [["plan"], ["scan", some_scan(chance)]])
+    return Input(tuple(words), data)
 
 
 BAD = [b"\xff", b"\x80", b"\xc0\x80", b"\xc3", b"\xe2\x82", b"\xed\xa0\x80", b"\xf4\x90\x80\x80", b"\xf0\x9f"]

@@ -166,10 +166,10 @@ def check_pieces(program, case):
     data = by_template(case, rows)
     sizes = [chance.choice([1, 2, 7, 100, 4095, 4096, 4097]) for _ in range(chance.choice([3, 30, 200]))]
     whole = program.run(("rewrite",), data)
-    for how, got in (("pieces", program.run(("rewrite",), data, sizes)), ("a file", program.run_on_file(("rewrite",), data)[0])):
-        program.count(f"inputs in {how}", 1)
+    program.count("inputs in pieces and as a file", 1)
+    for rule, got in (("pieces", program.run(("rewrite",), data, sizes)), ("a file", program.run_on_file(("rewrite",), data)[0])):
         if got != whole:
-            yield Finding(f"{how} of {sizes}" if how == "pieces" else how, ("rewrite",), data, whole, got)
+            yield Finding(rule, ("rewrite",), data, f"{whole}\n(pieces of {sizes})", got)
 
 
 def check_translated(program, case):

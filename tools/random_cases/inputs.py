@@ -65,6 +65,28 @@ def is_explained(lines, headers, got, names):
     return is_first and got.output.count(b"\n") == at - headers
 
 
+def are_slices(line, tokens):
+    """Whether tokens stand in a line, in order."""
+    at = 0
+    for it in tokens:
+        at = line.find(it, at)
+        if at < 0:
+            return False
+        at += len(it)
+    return True
+
+
+def scans_apart(program, words, lines, got):
+    """Tokens stand in their line in order, and are the same whatever the other lines are."""
+    kept = lines[: got.output.count(b"\n")]
+    for line, out in zip(kept, got.output.split(b"\n")):
+        if b"\t" not in line and not are_slices(line, out.split(b"\t")):
+            yield Finding("tokens in order", words, line + b"\n", "tokens that stand in the line, in order", out)
+    backwards = b"".join(it + b"\n" for it in reversed(kept))
+    wanted = b"".join(it + b"\n" for it in reversed(got.output.split(b"\n")[:-1]))
+    yield from unlike("lines backwards", program, words, backwards, Answer(0, wanted, b""))
+
+
 def check_input(program, case):
     """Each input has an answer that is stated, and what comes after a refused line changes nothing."""
     words, lines = case.words, lines_of(case.data)
@@ -87,11 +109,14 @@ def check_input(program, case):
     program.count("rows", got.output.count(b"\n"))
     if not is_explained(lines, headers, got, names):
         yield Finding("an input's answer", words, case.data, "an answer that is stated, for a line that can be meant", got)
-    elif got.status:
+        return
+    if words[0] == "scan":
+        yield from scans_apart(program, words, lines, got)
+    if got.status:
         number = int(got.errors.split()[1][:-1])
         before = b"".join(it + b"\n" for it in lines[: number - 1])
         yield from unlike("the lines before a refused one", program, words, before, Answer(0, got.output, b""))
-        yield from unlike("up to a refused line", program, words, before + lines[number - 1] + b"\n" , got)
+        yield from unlike("up to a refused line", program, words, before + lines[number - 1] + b"\n", got)
 
 
 def check_words(program, chance):
