@@ -31,8 +31,8 @@ build/conformance:
 	cp crates/conformance/out/conformance build/conformance
 
 demo: build/reformat
-	@echo '--- examples/counters/input: four header lines, then the rows'; cat examples/counters/input
-	@echo '--- build/reformat rewrite <examples/counters/input'; build/reformat rewrite <examples/counters/input
+	@echo '--- examples/access_sentence/input: six header lines, then the rows'; cat examples/access_sentence/input
+	@echo '--- build/reformat rewrite <examples/access_sentence/input'; build/reformat rewrite <examples/access_sentence/input
 
 examples: build/reformat
 	tools/run-examples build/reformat $(NAME)
