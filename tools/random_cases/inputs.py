@@ -28,6 +28,9 @@ def lines_of(data):
 def header_fault(texts):
     """Why the last of these header lines is refused: the message's end; None where it is kept, and "?" where the model doesn't say."""
     words = re.findall(r"[^\0- ]+", texts[-1])
+    if words == ["#2"] and len(texts) == 1:
+        # (version 2, whose headers this model doesn't have)
+        return "?"
     if len(texts) == 1:
         return None if all(it in KINDS for it in words) else "bad header"
     if len(texts) == 2:
