@@ -5,6 +5,7 @@ pub mod Options
 pub mod Spelled
 pub mod Patterns
 pub mod Runs
+pub mod Spans
 pub mod Tables
 pub mod OneAnswer
 pub mod Cutting

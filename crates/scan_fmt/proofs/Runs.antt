@@ -1,23 +1,10 @@
--- Sets, and numbers within their limits.
-use Rattle.std.proofs.Common.{eqb, ◌≡◌, ◌≢◌, ◌<◌, ◌≤◌, ◌-◌, ℕ, zero, suc, false, List, [], ◌∷◌, ◌++◌, length, take, drop, Option, Some, None, MatchOption, sym, ap, subst, refl, inl, inr, ◌∙◌, arith, append_assoc, length-append, length-take}
+-- Numbers within their limits.
+use Rattle.std.proofs.Common.{◌≡◌, ◌<◌, ◌≤◌, ◌-◌, ℕ, zero, suc, List, [], ◌∷◌, ◌++◌, length, take, drop, Option, Some, None, MatchOption, sym, ap, subst, refl, ◌∙◌, arith, append_assoc, length-append, length-take}
 use Rattle.std.specs.List.{AllByRecursion}
 use Rattle.std.specs.Str.{chars, IsUtf8, IsCharBoundary}
-use Rattle.std.proofs.lemmas.Bool.{cases_Bool, eqb-true, ne_eqb}
 use Rattle.std.proofs.lemmas.List.{take-append-drop, append_cancel_left}
-use Rattle.scan_fmt.specs.Sets.{is_between, is_in_ranges}
 use Rattle.scan_fmt.specs.Scanned.{IsLongest, Within}
 use Rattle.scan_fmt.proofs.Characters.{ascii_cut, ascii_longest}
-
-pub ranges_pair : (low high c : ℕ) (rest : List ℕ) → is_between low high c ≡ false → is_in_ranges (low ∷ 45 ∷ high ∷ rest) c ≡ is_in_ranges rest c
-ranges_pair low high c rest h = rw h refl
-
-pub ranges_single : (low c : ℕ) (more : List ℕ) → ((z : ℕ) (rest : List ℕ) → more ≡ 45 ∷ z ∷ rest → ⊥) → c ≢ low → is_in_ranges (low ∷ more) c ≡ is_in_ranges more c
-ranges_single low c [] none h = ne_eqb c low h
-ranges_single low c (b ∷ []) none h = rw (ne_eqb c low h) refl
-ranges_single low c (b ∷ z ∷ rest) none h = elim (cases_Bool (eqb b 45)) [
-  | inl e ↦ absurd (none z rest (ap (λ x. x ∷ z ∷ rest) (eqb-true b 45 e)))
-  | inr e ↦ rw (e, ne_eqb c low h) refl
-]
 
 -- the longest of the first n characters
 pub limited : (S : List ℕ → Type 0) (n : ℕ) (text a r : List ℕ) → IsLongest S (take n text) a r → IsLongest (λ t. S t × Within (Some n) t) text a (r ++ drop n text)

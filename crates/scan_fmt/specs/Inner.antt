@@ -3,3 +3,4 @@ pub mod Built
 pub mod Fields
 pub mod Found
 pub mod Parts
+pub mod Spans

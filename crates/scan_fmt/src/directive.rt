@@ -3,11 +3,11 @@ ghost use Rattle.std.specs.Prelude.{◌≡◌, ◌≢◌, ◌<◌, ◌∷◌, �
 ghost use Rattle.std.specs.Str.{byte, chars};
 ghost use Rattle.std.specs.Str.Parse.{AllDigits};
 ghost use Rattle.scan_fmt.specs.Directives.{after_blanks, limit_of, Spells, NoDirective};
-ghost use Rattle.scan_fmt.specs.Directives.{Characters, Among};
+ghost use Rattle.scan_fmt.specs.Directives.{Characters, Among, Field};
 ghost use Rattle.scan_fmt.specs.Expressions.{IsDelimited};
 ghost use Rattle.scan_fmt.specs.Scanned.{IsLongest};
 ghost use Rattle.scan_fmt.specs.Inner.Fields.{Content, Shaped, Names, SpellsBody, SpellsField, IsReadable, field_of};
-ghost use Rattle.scan_fmt.specs.Inner.Parts.{body_of, directive_of};
+ghost use Rattle.scan_fmt.specs.Inner.Parts.{run_of, body_of, directive_of};
 ghost use Rattle.scan_fmt.specs.Sets.{IsListing};
 
 use crate::expression::Expression;
@@ -18,7 +18,7 @@ use numerals::NoMemory;
 use std::alloc::Global;
 
 /// The characters that a run may have.
-#[derive(Clone, Copy)]
+#[derive(Drop)]
 pub enum Run<'f> {
     /// All but white space and this character.
     Until(Option<char>),
@@ -37,7 +37,7 @@ pub enum Notation {
 }
 
 /// What a field takes.
-#[derive(Clone, Copy)]
+#[derive(Drop)]
 pub enum Shape<'f> {
     Characters(Run<'f>),
     /// A number of at most so many characters.
@@ -50,7 +50,20 @@ pub enum Shape<'f> {
 /// What stands between a field's braces.
 #[derive(Clone, Copy)]
 enum Body<'f> {
-    Takes(Shape<'f>),
+    /// All but white space, up to this character.
+    Until(Option<char>),
+    /// The letter of a run.
+    Solid,
+    /// The listing of a set.
+    Lists {
+        inverted: bool,
+        listing: &'f str,
+    },
+    /// The letter of a number.
+    Number {
+        notation: Notation,
+        limit: Option<usize>,
+    },
     /// The pattern of an expression.
     Finds(&'f str),
     /// The letter of the end.
@@ -73,6 +86,14 @@ pub enum Directive<'f> {
     End,
 }
 
+/// The directive of a field that takes such a run.
+fn characters(stored: bool, run: Run<'_>) -> Directive<'_>
+    ensures { directive_of result ≡ Field stored (Characters (run_of run.entry)) }
+{
+    let shape = Shape::Characters(run);
+    Directive::Field { stored, shape }
+}
+
 impl<'f> Body<'f> {
     /// The directive, where `regex` reads its pattern.
     fn directive(self, alloc: Global, stored: bool) -> Result<Option<Directive<'f>>, NoMemory>
@@ -81,7 +102,16 @@ impl<'f> Body<'f> {
         ensures directive { IfOk result (λ o. IfSome o (λ d. directive_of d ≡ field_of stored (body_of self.entry))) }
     {
         match self {
-            Body::Takes(shape) => Ok(Some(Directive::Field { stored, shape })),
+            Body::Until(stop) => Ok(Some(characters(stored, Run::Until(stop)))),
+            Body::Solid => Ok(Some(characters(stored, Run::Solid))),
+            Body::Lists { inverted, listing } => {
+                let set = Set::new(alloc, listing)?;
+                Ok(Some(characters(stored, Run::Among { inverted, set })))
+            }
+            Body::Number { notation, limit } => {
+                let shape = Shape::Number { notation, limit };
+                Ok(Some(Directive::Field { stored, shape }))
+            }
             Body::Finds(pattern) => match Expression::new(alloc, pattern)? {
                 Some(expression) => Ok(Some(Directive::Expression { stored, expression })),
                 None => Ok(None),
@@ -158,8 +188,7 @@ fn set(text: &str) -> Option<(Body<'_>, &str)>
 fn among(inverted: bool, listing: &str) -> Body<'_>
     ensures { body_of result ≡ Shaped (Characters (Among inverted (chars listing.now))) }
 {
-    let set = Set::new(listing);
-    Body::Takes(Shape::Characters(Run::Among { inverted, set }))
+    Body::Lists { inverted, listing }
 }
 
 /// The pattern of an expression, and what follows the slash that ends it.
@@ -200,11 +229,11 @@ fn lettered(letter: char, limit: Option<usize>) -> Option<Body<'static>>
         'd' => Notation::Decimal,
         'x' => Notation::Hexadecimal,
         'f' => Notation::Float,
-        's' => return Some(Body::Takes(Shape::Characters(Run::Solid))),
+        's' => return Some(Body::Solid),
         'e' => return Some(Body::Ends),
         _ => return None,
     };
-    Some(Body::Takes(Shape::Number { notation, limit }))
+    Some(Body::Number { notation, limit })
 }
 
 /// What the letter, the set or the expression in front names, and what follows its closing brace.
@@ -230,10 +259,7 @@ fn field_body(text: &str) -> Option<(Body<'_>, &str)>
     ensures some { IfSome result (λ p. SpellsBody (body_of p.0) (chars text.now) (chars p.1.now)) }
 {
     if let Some(rest) = strip(text, '}') {
-        return Some((
-            Body::Takes(Shape::Characters(Run::Until(first(rest)))),
-            rest,
-        ));
+        return Some((Body::Until(first(rest)), rest));
     }
     let (limit, name) = limit(text);
     named_body(limit, name)

@@ -15,7 +15,7 @@ use std::marker::Model;
 #[derive(Drop)]
 pub struct Expression<'f> {
     pattern: &'f str,
-    regex: Regex,
+    regex: Box<Regex>,
 }
 
 impl<'f> Model for Expression<'f> {
@@ -27,7 +27,7 @@ impl<'f> Model for Expression<'f> {
 
     ghost view = { λ e. chars e.pattern.now };
 
-    ghost invariant = { λ e. IsBuilt (chars e.pattern.now) e.regex };
+    ghost invariant = { λ e. IsBuilt (chars e.pattern.now) e.regex.value };
 }
 
 /// What an expression takes from an input.
@@ -79,7 +79,10 @@ impl<'f> Expression<'f> {
     {
         let source = anchored(alloc, pattern)?;
         match Regex::new(alloc, source.as_str()) {
-            Ok(regex) => Ok(Some(Expression { pattern, regex })),
+            Ok(regex) => match Box::new(alloc, regex) {
+                Ok(regex) => Ok(Some(Expression { pattern, regex })),
+                Err(_) => Err(NoMemory),
+            },
             Err(Error::Syntax(_)) => Ok(None),
             Err(_) => Err(NoMemory),
         }

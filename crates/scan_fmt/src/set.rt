@@ -1,18 +1,32 @@
-// The characters of a set: a table of those in ASCII, and the listing for the others.
-ghost use Rattle.std.specs.Prelude.{◌≡◌, ◌∷◌, ◌||◌, ◌==◌, ℕ, ◌<◌, List, length, IfNone, IfSome};
+// The characters of a set: a table of those in ASCII, and spans in order for the others.
+ghost use Rattle.std.specs.Prelude.{◌≡◌, ◌∷◌, ◌||◌, ℕ, ◌<◌, List, length, IfNone, IfSome, IfOk, OnOk};
+ghost use Rattle.std.specs.List.Sorted.{IsNonDecreasingBy};
 ghost use Rattle.std.specs.Str.{byte, chars};
 ghost use Rattle.percent_encoding.specs.AsciiSet.{contains};
 ghost use Rattle.scan_fmt.specs.Sets.{is_between, is_in_ranges, is_listed};
+ghost use Rattle.scan_fmt.specs.Inner.Spans.{is_covered, Rises, low_of};
 
 use crate::text::{split_first, strip};
+use numerals::NoMemory;
 use percent_encoding::AsciiSet;
+use std::alloc::Global;
 
-/// What stands between the brackets of a set, with a table of its ASCII characters.
+/// The characters from one to another, both included.
 #[derive(Clone, Copy)]
+pub struct Span {
+    low: char,
+    reach: char,
+}
+
+/// What stands between the brackets of a set, with a table of its ASCII characters and spans of all.
+#[derive(Drop)]
 pub struct Set<'f> {
     listing: &'f str,
     ascii: AsciiSet,
+    spans: Vec<Span>,
     ghost table: { (b : ℕ) → b < 128 → contains ascii b ≡ is_listed (chars listing.now) b },
+    ghost rises: { Rises spans.items },
+    ghost covered: { (b : ℕ) → is_covered spans.items b ≡ is_listed (chars listing.now) b },
 }
 
 /// The other end of a range, where a dash stands in front, and what follows it.
@@ -24,113 +38,112 @@ fn range_end(text: &str) -> Option<(char, &str)>
     split_first(strip(text, '-')?)
 }
 
-fn is_between(low: char, high: char, c: char) -> bool
-    ensures { result ≡ is_between low high c }
+/// Adds the characters from one to another.
+fn add_range(spans: &mut Vec<Span>, low: char, high: char) -> Result<(), NoMemory>
+    ensures { OnOk result ((b : ℕ) → is_covered spans.new.items b ≡ (is_covered spans.old.items b || is_between low high b)) }
 {
-    low <= c && c <= high
+    let reach = high;
+    if spans.push(Span { low, reach }).is_err() {
+        return Err(NoMemory);
+    }
+    Ok(())
 }
 
-/// The table, and the character where it is in ASCII.
-fn with_character(ascii: AsciiSet, c: char) -> AsciiSet
-    ensures { (b : ℕ) → b < 128 → contains result b ≡ (contains ascii b || (b == c)) }
+/// Adds what the ranges list.
+fn add_ranges(spans: &mut Vec<Span>, ranges: &str) -> Result<(), NoMemory>
+    ensures { OnOk result ((b : ℕ) → is_covered spans.new.items b ≡ (is_covered spans.old.items b || is_in_ranges (chars ranges.now) b)) }
 {
-    if c.is_ascii() {
-        ascii.add(c as u8)
-    } else {
-        ascii
+    let mut ranges = ranges;
+    'listed: while let Some((low, rest)) = split_first(ranges) {
+        if let Some((high, rest)) = range_end(rest) {
+            add_range(spans, low, high)?;
+            ranges = rest;
+        } else {
+            add_range(spans, low, low)?;
+            ranges = rest;
+        }
+    }
+    Ok(())
+}
+
+/// What is listed, range by range.
+fn ranges_of(alloc: Global, listing: &str) -> Result<Vec<Span>, NoMemory>
+    ensures { IfOk result (λ v. (b : ℕ) → is_covered v.items b ≡ is_listed (chars listing.now) b) }
+{
+    let mut spans = Vec::new(alloc);
+    match split_first(listing) {
+        Some((first, rest)) => {
+            if first == '-' || first == ']' {
+                add_range(&mut spans, first, first)?;
+                add_ranges(&mut spans, rest)?;
+            } else {
+                add_ranges(&mut spans, listing)?;
+            }
+            Ok(spans)
+        }
+        None => Ok(spans),
     }
 }
 
-/// The table, and the range as far as it is in ASCII.
-fn with_range(ascii: AsciiSet, low: char, high: char) -> AsciiSet
-    ensures { (b : ℕ) → b < 128 → contains result b ≡ (contains ascii b || is_between low high b) }
+/// Lets each span reach at least as far as those before it.
+fn raise(spans: &mut [Span])
+    requires { IsNonDecreasingBy low_of spans.old }
+    ensures rises { Rises spans.new }
+    ensures covered { (b : ℕ) → is_covered spans.new b ≡ is_covered spans.old b }
 {
-    let mut table = ascii;
+    'spans: for i in 1..spans.len() {
+        let reach = spans[i - 1].reach;
+        if spans[i].reach < reach {
+            spans[i].reach = reach;
+        }
+    }
+}
+
+/// Sorts the spans, and lets each reach at least as far as those before it.
+fn order(spans: &mut [Span])
+    ensures rises { Rises spans.new }
+    ensures covered { (b : ℕ) → is_covered spans.new b ≡ is_covered spans.old b }
+{
+    spans.sort_unstable_by_key(|span| span.low);
+    raise(spans);
+}
+
+/// Whether one of the spans has the character: of those that begin at or before it, the last reaches farthest.
+fn is_covered(spans: &[Span], c: char) -> bool
+    requires { Rises spans.now }
+    ensures { result ≡ is_covered spans.now c }
+{
+    let count = spans.partition_point(|span| span.low <= c);
+    count > 0 && c <= spans[count - 1].reach
+}
+
+/// The table of the ASCII characters that the spans have.
+fn table_of(spans: &[Span]) -> AsciiSet
+    requires { Rises spans.now }
+    ensures { (b : ℕ) → b < 128 → contains result b ≡ is_covered spans.now b }
+{
+    let mut table = AsciiSet { mask: 0 };
     'codes: for code in 0..128u8 {
-        if is_between(low, high, char::from(code)) {
+        if is_covered(spans, char::from(code)) {
             table = table.add(code);
         }
     }
     table
 }
 
-/// The table, and what the ranges list in ASCII.
-fn with_ranges(ascii: AsciiSet, ranges: &str) -> AsciiSet
-    ensures { (b : ℕ) → b < 128 → contains result b ≡ (contains ascii b || is_in_ranges (chars ranges.now) b) }
-{
-    let mut table = ascii;
-    let mut ranges = ranges;
-    'listed: while let Some((low, rest)) = split_first(ranges) {
-        if let Some((high, rest)) = range_end(rest) {
-            table = with_range(table, low, high);
-            ranges = rest;
-        } else {
-            table = with_character(table, low);
-            ranges = rest;
-        }
-    }
-    table
-}
-
-/// The table of what is listed in ASCII.
-fn table_of(listing: &str) -> AsciiSet
-    ensures { (b : ℕ) → b < 128 → contains result b ≡ is_listed (chars listing.now) b }
-{
-    let none = AsciiSet { mask: 0 };
-    match split_first(listing) {
-        Some((first, rest)) => {
-            if first == '-' || first == ']' {
-                with_ranges(with_character(none, first), rest)
-            } else {
-                with_ranges(none, listing)
-            }
-        }
-        None => none,
-    }
-}
-
-fn is_in_ranges(ranges: &str, c: char) -> bool
-    ensures { result ≡ is_in_ranges (chars ranges.now) c }
-{
-    let mut ranges = ranges;
-    'listed: while let Some((low, rest)) = split_first(ranges) {
-        if let Some((high, rest)) = range_end(rest) {
-            if is_between(low, high, c) {
-                return true;
-            }
-            ranges = rest;
-        } else {
-            if c == low {
-                return true;
-            }
-            ranges = rest;
-        }
-    }
-    false
-}
-
-fn is_listed(listing: &str, c: char) -> bool
-    ensures { result ≡ is_listed (chars listing.now) c }
-{
-    match split_first(listing) {
-        Some((first, rest)) => {
-            if first == '-' || first == ']' {
-                c == first || is_in_ranges(rest, c)
-            } else {
-                is_in_ranges(listing, c)
-            }
-        }
-        None => false,
-    }
-}
-
 impl<'f> Set<'f> {
-    /// The set of a listing. Its table is made here.
-    pub fn new(listing: &'f str) -> Set<'f>
-        ensures { result.listing.now ≡ listing.now }
+    /// The set of a listing. Its table and its spans are made here.
+    pub fn new(alloc: Global, listing: &'f str) -> Result<Set<'f>, NoMemory>
+        ensures { IfOk result (λ s. s.listing.now ≡ listing.now) }
     {
-        let ascii = table_of(listing);
-        Set { listing, ascii }
+        let mut spans = ranges_of(alloc, listing)?;
+        order(&mut spans);
+        let ascii = table_of(&spans);
+        Ok(Set {
+            listing,
+            ascii,
+            spans,
+        })
     }
 
     /// Whether the character is listed.
@@ -140,7 +153,7 @@ impl<'f> Set<'f> {
         if c.is_ascii() {
             self.ascii.contains(c as u8)
         } else {
-            is_listed(self.listing, c)
+            is_covered(&self.spans, c)
         }
     }
 }

@@ -8,7 +8,7 @@ use Rattle.scan_fmt.specs.declared.directive.Notation.TheVariants.{Decimal as De
 use Rattle.scan_fmt.specs.declared.directive.Shape.{Shape as ShapePart}
 use Rattle.scan_fmt.specs.declared.directive.Shape.TheVariants.{Characters as CharactersPart, Number as NumberPart}
 use Rattle.scan_fmt.specs.declared.directive.Body.{Body}
-use Rattle.scan_fmt.specs.declared.directive.Body.TheVariants.{Takes as TakesPart, Finds as FindsPart, Ends as EndsPart}
+use Rattle.scan_fmt.specs.declared.directive.Body.TheVariants.{Until as UntilBody, Solid as SolidBody, Lists, Number as NumberBody, Finds as FindsPart, Ends as EndsPart}
 use Rattle.scan_fmt.specs.declared.directive.Directive.{Directive as DirectivePart}
 use Rattle.scan_fmt.specs.declared.directive.Directive.TheVariants.{Literal, Field as FieldPart, Expression as ExpressionPart, End}
 use Rattle.scan_fmt.specs.declared.field.Pass.{Pass}
@@ -35,7 +35,10 @@ shape_of (CharactersPart run) = Characters (run_of run)
 shape_of (NumberPart notation limit) = Number (notation_of notation) limit
 
 abbrev pub body_of : Body → Content
-body_of (TakesPart shape) = Shaped (shape_of shape)
+body_of (UntilBody stop) = Shaped (Characters (Until stop))
+body_of SolidBody = Shaped (Characters Solid)
+body_of (Lists inverted listing) = Shaped (Characters (Among inverted (chars listing.now)))
+body_of (NumberBody notation limit) = Shaped (Number (notation_of notation) limit)
 body_of (FindsPart pattern) = Finds (chars pattern.now)
 body_of EndsPart = Ends
 

@@ -3,8 +3,8 @@ use Rattle.std.specs.Str.{chars}
 use Rattle.scan_fmt.proofs.Expressions.{built_some, refused_none}
 use Rattle.scan_fmt.proofs.expression.Expression.new.Goals as goal
 
-pub returns-in-Ok-clause-read : goal.returns-in-Ok-clause-read
-returns-in-Ok-clause-read c =
+pub returns-in-Ok-new-clause-read : goal.returns-in-Ok-new-clause-read
+returns-in-Ok-new-clause-read c =
     let built = c.in-Ok.ensures in
     built_some (chars c.args.pattern.now) c.in-Ok.regex (record { source = ap chars (built.source ∙ c.as_str.ensures.value) ∙ c.in_ok-source.ensures; config = built.config; read = built.read })
 
