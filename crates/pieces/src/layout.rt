@@ -34,6 +34,19 @@ fn append_signed(number: i64, out: &mut String) -> Result<(), AllocError>
     out.push_str(buffer.format(number))
 }
 
+/// Appends literal text. Most literal texts are empty or one character, and then nothing is copied.
+#[inline(always)]
+fn append_literal(text: &str, out: &mut String) -> Result<(), AllocError>
+    ensures ok { OnOk result (string_bytes out.new ≡ string_bytes out.old ++ text.now) }
+    ensures unchanged { OnErr result (string_bytes out.new ≡ string_bytes out.old) }
+{
+    match text.as_bytes() {
+        [] => Ok(()),
+        [byte @ 0..=127] => out.push(char::from(*byte)),
+        _ => out.push_str(text),
+    }
+}
+
 /// How a value of a row is printed.
 #[derive(Clone, Copy)]
 pub(crate) enum Form {
@@ -120,7 +133,7 @@ impl Piece {
         ensures ok { OnOk result (string_bytes out.new ≡ string_bytes out.old ++ part_text self.now row.now tokens.now) }
         ensures front { Starts (string_bytes out.old) (string_bytes out.new) }
     {
-        out.push_str(self.before.as_str())?;
+        append_literal(self.before.as_str(), out)?;
         let token = token_at(tokens, self.place);
         self.form.append_where(row, token, out)
     }
@@ -198,7 +211,7 @@ impl Layout {
         'pieces: for piece in &self.pieces {
             piece.append(row, tokens, out)?;
         }
-        out.push_str(self.tail.as_str())
+        append_literal(self.tail.as_str(), out)
     }
 }
 

@@ -1,13 +1,13 @@
 -- A row of a plan is a row of the format that was planned.
-use Rattle.std.proofs.Common.{◌≡◌, ◌++◌, ℕ, List, [], ◌∷◌, map, sym, ap, ◌∙◌, subst, refl, inl, inr, append_assoc, Result, Ok, Err, OnOk}
+use Rattle.std.proofs.Common.{◌≡◌, ◌++◌, ℕ, List, [], ◌∷◌, map, sym, ap, ◌∙◌, subst, refl, inl, inr, append_assoc, Option, Some, None, IfSome, Result, Ok, Err, OnOk}
 use Rattle.sprintf.specs.declared.PrintfError.{PrintfError}
 use Rattle.values.specs.declared.kind.Kind.{Kind}
 use Rattle.values.specs.declared.value.Value.{Value}
 use Rattle.values.specs.Datum.{Datum, kind_of, datum_of}
 use Rattle.row_format.specs.Columns.{Columns, columns_of, row_text}
 use Rattle.row_format.specs.Fit.{AreFit}
-use Rattle.row_format.specs.Laws.{PrintsColumns}
-use Rattle.row_format.specs.Plannable.{IsUnpaired, Never}
+use Rattle.row_format.specs.Laws.{HasOneList, PrintsColumns}
+use Rattle.row_format.specs.Plannable.{IsPlannable, IsUnpaired, Never}
 use Rattle.row_format.specs.Row.{IsRow as IsPlanRow}
 use Rattle.row_plan.specs.Plan.{IsRead}
 use Rattle.printer.specs.Prints.{Printing, Prints}
@@ -22,7 +22,8 @@ use Rattle.header_lines.specs.declared.heading.Version.{Version}
 use Rattle.rewriting.specs.declared.rows.Source.{Source}
 use Rattle.rewriting.specs.Rewrite.{Layout, IsRow, IsRowOf, Renders, IsRewrittenAs}
 use Rattle.rewriting.specs.Rules.{rows_next, Keeps, RefusesRow}
-use Rattle.rewriting.specs.Inner.State.{layout_of, IsSoundSource, IsNoRow}
+use Rattle.rewriting.specs.Inner.Fast.{FastWay, HasWritten, IsWayOf, IsWritten}
+use Rattle.rewriting.specs.Inner.State.{layout_of, way_of, IsSoundSource, IsNoRow}
 
 abbrev row_is : List ℕ → Result (List ℕ) PrintfError
 row_is row = Ok row
@@ -96,3 +97,31 @@ not_read why = Err why
 pub unread_if : PrintsColumns → (version : Version) (source : Source) (printing : Printing) (number : ℕ) (row : List ℕ) (why : Refusal LineCause) → IsSoundSource source → IfRefused (not_read why) (IsNoRow source.plan number row) → IfRefused (not_read why) (RefusesRow (layout_of version source printing) number row)
 unread_if prints version source printing number row (Line cause) sound none = unread prints version source printing number row cause sound none
 unread_if prints version source printing number row NoMemory sound none = tt
+
+-- what the fast way has written is the line that the row is rewritten as
+pub fast_rewritten : PrintsColumns → HasOneList → (version : Version) (source : Source) (printing : Printing) (row old new : List ℕ) → IsSoundSource source → IsWritten (way_of source printing) row old new
+    → (line : List ℕ) × IsRewrittenAs (layout_of version source printing) row line × (new ≡ old ++ (line ++ 10 ∷ []))
+fast_rewritten columns one version source printing row old new sound written =
+    let plannable : IsPlannable source.plan.format.columns source.plan.kinds = subst (λ (c : Columns). IsPlannable c.columns source.plan.kinds) (sym sound.columns) sound.plannable in
+    let of_row : IsRowOf (layout_of version source printing) row written.values = record {
+      is_row = row_of_plan columns source row written.values sound written.is_row;
+      only = λ others is. one source.plan.format source.plan.kinds row others written.values written.text plannable (plan_row columns source row others sound is) written.is_row;
+    } in
+    (written.line, (written.values, of_row, written.prints), written.grown)
+
+-- the same, where the way is one that may be missing
+pub if_rewritten : PrintsColumns → HasOneList → (version : Version) (source : Source) (printing : Printing) (way : Option FastWay) (row old new : List ℕ) → IsSoundSource source → IfSome way (λ w. w ≡ way_of source printing)
+    → HasWritten way row old new → (line : List ℕ) × IsRewrittenAs (layout_of version source printing) row line × (new ≡ old ++ (line ++ 10 ∷ []))
+if_rewritten columns one version source printing (Some way) row old new sound is written = fast_rewritten columns one version source printing row old new sound (subst (λ (w : FastWay). IsWritten w row old new) is written)
+if_rewritten columns one version source printing None row old new sound is written = absurd written
+
+abbrev way_by : Columns → List Kind → Printing → FastWay
+way_by format kinds printing = record { format = format; kinds = kinds; printing = printing }
+
+-- the way that was made of the headers' texts is that of the source
+pub way_found : (source : Source) (printing : Printing) (kinds : List Kind) (found : Option FastWay) → IsSoundSource source → source.plan.kinds ≡ kinds → IfSome found (IsWayOf source.text.now kinds printing)
+    → IfSome found (λ way. way ≡ way_of source printing)
+way_found source printing kinds (Some way) sound same is =
+    let columns : columns_of is.elements ≡ columns_of sound.elements = header_lines_are_clear.one_thing.columns source.text.now is.elements sound.elements is.spelled sound.spelled in
+    is.way_is ∙ ap (λ (c : Columns). way_by c kinds printing) (columns ∙ sym sound.columns) ∙ ap (λ (k : List Kind). way_by source.plan.format k printing) (sym same)
+way_found source printing kinds None sound same is = tt
