@@ -48,14 +48,14 @@ fn append_literal(text: &str, out: &mut String) -> Result<(), AllocError>
 }
 
 /// How a value of a row is printed.
-#[derive(Clone, Copy)]
+#[derive(Clone, Copy, PartialEq, Eq)]
 pub(crate) enum Form {
     /// A number without a sign, in decimal.
     Number,
     /// A number with a sign, in decimal.
     Signed,
-    /// A word as it stands in the row.
-    Word,
+    /// As it stands in the row.
+    Copied,
 }
 
 impl Form {
@@ -66,7 +66,7 @@ impl Form {
         match kind {
             Kind::U8 | Kind::U16 | Kind::U32 | Kind::U64 | Kind::Usize => Some(Form::Number),
             Kind::I8 | Kind::I16 | Kind::I32 | Kind::I64 | Kind::Isize => Some(Form::Signed),
-            Kind::Word => Some(Form::Word),
+            Kind::Word => Some(Form::Copied),
             Kind::Char => None,
         }
     }
@@ -80,7 +80,7 @@ impl Form {
         match self {
             Form::Number => append_number(token.number, out),
             Form::Signed => append_signed(token.number.cast_signed(), out),
-            Form::Word => out.push_str(&row[token.start..token.end]),
+            Form::Copied => out.push_str(&row[token.start..token.end]),
         }
     }
 
@@ -111,10 +111,10 @@ fn token_at(tokens: &[Token], place: usize) -> Option<&Token>
 
 /// Literal text, and behind it the value that has this place among the tokens.
 #[derive(Drop)]
-struct Piece {
-    before: String,
-    form: Form,
-    place: usize,
+pub(crate) struct Piece {
+    pub(crate) before: String,
+    pub(crate) form: Form,
+    pub(crate) place: usize,
 }
 
 impl Model for Piece {
@@ -142,8 +142,8 @@ impl Piece {
 /// Pieces in order, and the literal text behind the last of them.
 #[derive(Drop)]
 pub(crate) struct Layout {
-    pieces: Vec<Piece>,
-    tail: String,
+    pub(crate) pieces: Vec<Piece>,
+    pub(crate) tail: String,
 }
 
 impl Model for Layout {

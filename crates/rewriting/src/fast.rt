@@ -1,7 +1,7 @@
 // The fast way: rows that are read by their columns and printed by the template's pieces.
 ghost use Rattle.std.specs.Prelude.{◌≡◌, [], map, IfOk, IfSome, IsTrue, OnErr, false, string_bytes};
 ghost use Rattle.values.specs.Datum.{word_text};
-ghost use Rattle.rewriting.specs.Inner.Fast.{AreColumnsOf, IsWayOf, IsWritten};
+ghost use Rattle.rewriting.specs.Inner.Fast.{IsRowFormatOf, IsWayOf, IsWritten};
 
 use columns::{Columns, Token};
 use header_lines::{Fields, LineCause};
@@ -27,26 +27,24 @@ impl Model for Fast {
     ghost use Rattle.std.specs.Prelude.{◌≡◌};
     ghost use Rattle.row_format.specs.Laws.{IsText};
     ghost use Rattle.values.specs.Datum.{word_text};
-ghost use Rattle.rewriting.specs.Inner.Fast.{FastWay};
+    ghost use Rattle.rewriting.specs.Inner.Fast.{FastWay};
 
     ghost Value = { FastWay };
 
     ghost view = { λ it. record { format = it.columns.format; kinds = it.columns.kinds; printing = it.pieces.printing } };
 
-    ghost invariant = { λ it. IsText it.columns.format × (it.pieces.kinds ≡ it.columns.kinds) };
+    ghost invariant = { λ it. IsText it.columns.format × (it.pieces.format ≡ it.columns.format) × (it.pieces.kinds ≡ it.columns.kinds) };
 }
 
-/// The columns of a printf format, or None where they don't serve.
-fn columns_of(alloc: Global, format: &str, kinds: &[Kind]) -> Result<Option<Columns>, NoMemory>
-    ensures { IfOk result (λ found. IfSome found (AreColumnsOf format.now kinds.now)) }
+/// A printf format as columns, or None where it is none.
+fn row_format(alloc: Global, format: &str) -> Result<Option<RowFormat>, NoMemory>
+    ensures { IfOk result (λ found. IfSome found (IsRowFormatOf format.now)) }
 {
-    let elements = match parse_format_string(alloc, format) {
-        Ok(elements) => elements,
-        Err(PrintfError::NoMemory) => return Err(NoMemory),
-        Err(_) => return Ok(None),
-    };
-    let format = RowFormat::new(alloc, &elements)?;
-    Columns::new(alloc, &format, kinds)
+    match parse_format_string(alloc, format) {
+        Ok(elements) => Ok(Some(RowFormat::new(alloc, &elements)?)),
+        Err(PrintfError::NoMemory) => Err(NoMemory),
+        Err(_) => Ok(None),
+    }
 }
 
 impl Fast {
@@ -60,10 +58,13 @@ impl Fast {
     ) -> Result<Option<Fast>, NoMemory>
         ensures { IfOk result (λ found. IfSome found (IsWayOf format.now kinds.now (record { dialect = dialect; template = template.now; names = [] }))) }
     {
-        let Some(columns) = columns_of(alloc, format, kinds)? else {
+        let Some(format) = row_format(alloc, format)? else {
             return Ok(None);
         };
-        let Some(pieces) = Pieces::new(alloc, dialect, template, kinds)? else {
+        let Some(columns) = Columns::new(alloc, &format, kinds)? else {
+            return Ok(None);
+        };
+        let Some(pieces) = Pieces::new(alloc, dialect, template, format, kinds)? else {
             return Ok(None);
         };
         Ok(Some(Fast { columns, pieces }))

@@ -8,7 +8,6 @@ use Rattle.values.specs.Datum.{Datum}
 use Rattle.row_format.specs.Columns.{Columns, columns_of}
 use Rattle.row_format.specs.Laws.{IsText}
 use Rattle.row_format.specs.Row.{IsRow}
-use Rattle.columns.specs.Rows.{RowColumns}
 use Rattle.printer.specs.Prints.{Printing, Prints}
 
 -- The format and the kinds of the rows, and the template that prints their values.
@@ -17,12 +16,12 @@ pub record FastWay : Type 0 where
   pub kinds : List Kind
   pub printing : Printing
 
--- The columns are those of the printf format over the kinds.
-pub record AreColumnsOf (format : List ℕ) (kinds : List Kind) (columns : RowColumns) : Type 0 where
+-- The columns are those of the printf format.
+pub record IsRowFormatOf (format : List ℕ) (columns : Columns) : Type 0 where
   pub elements : List FormatElement
   pub spelled : IsFormat format elements
-  pub text : IsText (columns_of elements)
-  pub columns_are : columns ≡ record { format = columns_of elements; kinds = kinds }
+  pub text : IsText columns
+  pub columns_are : columns ≡ columns_of elements
 
 -- The way is from rows of the printf format over the kinds to lines of the template.
 pub record IsWayOf (format : List ℕ) (kinds : List Kind) (printing : Printing) (way : FastWay) : Type 0 where
