@@ -2,9 +2,11 @@ use Rattle.std.proofs.Common.{◌≡◌, ◌++◌, ◌∙◌, ℕ, List, [], ◌
 use Rattle.std.proofs.lemmas.Str.{IsUtf8-string_bytes}
 use Rattle.values.specs.declared.kind.Kind.{Kind}
 use Rattle.tokens.specs.declared.Token.{Token}
-use Rattle.tokens.specs.Tokens.{data_of}
+use Rattle.tokens.specs.Tokens.{AreTokens, data_of}
+use Rattle.row_format.specs.Columns.{Columns}
 use Rattle.row_format.specs.Laws.{IsText}
 use Rattle.row_format.specs.Row.{IsRow}
+use Rattle.columns.specs.Fields.{AreFieldsAt}
 use Rattle.columns.specs.Rows.{RowColumns}
 use Rattle.printer.specs.Prints.{Prints}
 use Rattle.pieces.specs.Template.{Template}
@@ -27,6 +29,21 @@ written columns pieces row old mid new line tokens seen text kinds same is_row p
   grown = ended old line mid new grown ended_by;
 }
 
+are_tokens : (columns : RowColumns) (pieces : Template) (row : List ℕ) (tokens seen : List Token) → pieces.kinds ≡ columns.kinds → seen ≡ tokens → AreTokens columns.kinds row tokens → AreTokens pieces.kinds row seen
+are_tokens columns pieces row tokens seen kinds same are = subst (λ (k : List Kind). AreTokens k row seen) (sym kinds) (subst (λ (ts : List Token). AreTokens columns.kinds row ts) (sym same) are)
+
+are_fields : (columns : RowColumns) (pieces : Template) (row : List ℕ) (tokens seen : List Token) → pieces.format ≡ columns.format → pieces.kinds ≡ columns.kinds → seen ≡ tokens
+    → AreFieldsAt columns.format.columns columns.kinds row tokens → AreFieldsAt pieces.format.columns pieces.kinds row seen
+are_fields columns pieces row tokens seen format kinds same are =
+    subst (λ (f : Columns). AreFieldsAt f.columns pieces.kinds row seen) (sym format)
+    (subst (λ (k : List Kind). AreFieldsAt columns.format.columns k row seen) (sym kinds) (subst (λ (ts : List Token). AreFieldsAt columns.format.columns columns.kinds row ts) (sym same) are))
+
+pub write-requires : goal.write-requires
+write-requires c = record {
+  tokens = are_tokens c.self.inside.columns c.self.inside.pieces c.args.row.now c.read.new.tokens.items c.deref.result.now c.self.invariant.2 c.deref.ensures.value (c.in_ok-read.ensures.tokens c.if-not-branch.false);
+  fields = are_fields c.self.inside.columns c.self.inside.pieces c.args.row.now c.read.new.tokens.items c.deref.result.now c.self.invariant.1 c.self.invariant.2 c.deref.ensures.value (c.in_ok-read.ensures.fields c.if-not-branch.false);
+}
+
 pub end_line-requires : goal.end_line-requires
 end_line-requires c = record {
   front = string_bytes c.args.out.now;
@@ -40,4 +57,4 @@ pub returns-in-Ok-clause-written : goal.returns-in-Ok-clause-written
 returns-in-Ok-clause-written c = λ _.
     subst (λ (w : FastWay). IsWritten w c.args.row.now (string_bytes c.args.out.now) (string_bytes c.end_line.new.out)) (sym c.self.view_is)
     (written c.self.inside.columns c.self.inside.pieces c.args.row.now (string_bytes c.args.out.now) (string_bytes c.write.new.out) (string_bytes c.end_line.new.out) c.in_ok-write.ensures.text.0
-    c.read.new.tokens.items c.deref.result.now c.self.invariant.0 c.self.invariant.1 c.deref.ensures.value (c.in_ok-read.ensures.sound c.if-not-branch.false) c.in_ok-write.ensures.text.1 c.in_ok-write.ensures.text.2 c.in-Ok.ensures.ok)
+    c.read.new.tokens.items c.deref.result.now c.self.invariant.0 c.self.invariant.2 c.deref.ensures.value (c.in_ok-read.ensures.sound c.if-not-branch.false) c.in_ok-write.ensures.text.1 c.in_ok-write.ensures.text.2 c.in-Ok.ensures.ok)
