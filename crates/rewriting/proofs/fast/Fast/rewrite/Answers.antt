@@ -55,6 +55,6 @@ end_line-requires c = record {
 
 pub returns-in-Ok-clause-written : goal.returns-in-Ok-clause-written
 returns-in-Ok-clause-written c = λ _.
-    subst (λ (w : FastWay). IsWritten w c.args.row.now (string_bytes c.args.out.now) (string_bytes c.end_line.new.out)) (sym c.self.view_is)
+    subst (λ (w : FastWay). IsWritten w c.args.row.now (string_bytes c.args.out.now) (string_bytes c.end_line.new.out)) c.self.view_is
     (written c.self.inside.columns c.self.inside.pieces c.args.row.now (string_bytes c.args.out.now) (string_bytes c.write.new.out) (string_bytes c.end_line.new.out) c.in_ok-write.ensures.text.0
     c.read.new.tokens.items c.deref.result.now c.self.invariant.0 c.self.invariant.2 c.deref.ensures.value (c.in_ok-read.ensures.sound c.if-not-branch.false) c.in_ok-write.ensures.text.1 c.in_ok-write.ensures.text.2 c.in-Ok.ensures.ok)
