@@ -1,7 +1,7 @@
 // The fast way: rows that are read by their columns and printed by the template's pieces.
 ghost use Rattle.std.specs.Prelude.{◌≡◌, [], map, IfOk, IfSome, IsTrue, OnErr, false, string_bytes};
 ghost use Rattle.values.specs.Datum.{word_text};
-ghost use Rattle.rewriting.specs.Inner.Fast.{IsRowFormatOf, IsWayOf, IsWritten};
+ghost use Rattle.rewriting.specs.Inner.Fast.{IsRowFormatOf, IsWayOf, IsWritten, NeedsNoNames};
 
 use columns::{Columns, Token};
 use header_lines::{Fields, LineCause};
@@ -14,7 +14,7 @@ use sprintf::PrintfError;
 use sprintf::parser::parse_format_string;
 use std::alloc::Global;
 use std::marker::Model;
-use values::Kind;
+use values::{Kind, Word};
 
 /// How the rows of a format are read by their columns, and how a template prints them by its pieces.
 #[derive(Drop)]
@@ -94,7 +94,17 @@ impl Fast {
     }
 }
 
-/// The fast way from rows of these fields to lines of a template, where there is one. A template whose values have names has none.
+/// Whether a template prints without these names what it prints with them: a printf format has no names.
+fn needs_no_names(dialect: Dialect, names: &[Word]) -> bool
+    ensures { IsTrue result → NeedsNoNames dialect (map word_text names.now) }
+{
+    match dialect {
+        Dialect::Printf => true,
+        Dialect::Strfmt | Dialect::Formatx => names.is_empty(),
+    }
+}
+
+/// The fast way from rows of these fields to lines of a template, where there is one.
 pub(crate) fn find_fast(
     alloc: Global,
     fields: &Fields,
@@ -104,7 +114,7 @@ pub(crate) fn find_fast(
 ) -> Result<Option<Fast>, NoMemory>
     ensures { IfOk result (λ found. IfSome found (IsWayOf format.now fields.now.kinds.items (record { dialect = dialect; template = template.now; names = map word_text fields.now.names.items }))) }
 {
-    if fields.names.is_empty() {
+    if needs_no_names(dialect, &fields.names) {
         Fast::new(alloc, format, &fields.kinds, dialect, template)
     } else {
         Ok(None)

@@ -7,7 +7,7 @@ ghost use Rattle.header_lines.specs.Headers.{RefusesFormatLine};
 ghost use Rattle.header_lines.specs.declared.heading.Version.{Version};
 ghost use Rattle.rewriting.specs.Rewrite.{IsRewrittenAs};
 ghost use Rattle.rewriting.specs.Rules.{RefusesRow};
-ghost use Rattle.rewriting.specs.Inner.State.{layout_of, way_of, IsSoundSource, IsNoRow};
+ghost use Rattle.rewriting.specs.Inner.State.{layout_of, IsSoundSource, IsNoRow, IsWayTo};
 ghost use Rattle.rewriting.specs.Inner.Fast.{HasWritten};
 
 use crate::fast::Fast;
@@ -148,7 +148,7 @@ pub(crate) fn rewrite_row(
     out: &mut String,
 ) -> Result<(), Refusal<LineCause>>
     requires source { IsSoundSource source.now }
-    requires fast { IfSome fast.now (λ way. way ≡ way_of source.now printer.now) }
+    requires fast { IfSome fast.now (IsWayTo source.now printer.now) }
     ensures kept { (version : Version) → OnOk result ((line : List ℕ) × IsRewrittenAs (layout_of version source.now printer.now) row.now line × (string_bytes out.new ≡ string_bytes out.old ++ (line ++ line_feed ∷ []))) }
     ensures refused { (version : Version) → IfRefused result (RefusesRow (layout_of version source.now printer.now) number row.now) }
     ensures as_before { OnErr result (string_bytes out.new ≡ string_bytes out.old) }

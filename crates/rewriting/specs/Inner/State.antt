@@ -20,7 +20,7 @@ use Rattle.header_lines.specs.Read.{fields_of, heading_of}
 use Rattle.rewriting.specs.declared.rows.Source.{Source}
 use Rattle.rewriting.specs.declared.rewrite.State.{State}
 use Rattle.rewriting.specs.declared.rewrite.State.TheVariants.{Heading, Format, Dialect, Template, Rows}
-use Rattle.rewriting.specs.Inner.Fast.{FastWay}
+use Rattle.rewriting.specs.Inner.Fast.{FastWay, PrintsAlike}
 use Rattle.rewriting.specs.Rewrite.{Layout}
 use Rattle.rewriting.specs.Rules.{Stage, heading_next, format_next, dialect_next, template_next, rows_next}
 
@@ -28,9 +28,11 @@ use Rattle.rewriting.specs.Rules.{Stage, heading_next, format_next, dialect_next
 abbrev pub layout_of : Version → Source → Printing → Layout
 layout_of version source printing = record { version = version; kinds = source.plan.kinds; names = printing.names; format = source.text.now; dialect = printing.dialect; template = printing.template }
 
--- the way from the source's rows to the template's lines
-abbrev pub way_of : Source → Printing → FastWay
-way_of source printing = record { format = source.plan.format; kinds = source.plan.kinds; printing = printing }
+-- the way is from the source's rows to the template's lines
+pub record IsWayTo (source : Source) (printing : Printing) (way : FastWay) : Type 0 where
+  pub format : way.format ≡ source.plan.format
+  pub kinds : way.kinds ≡ source.plan.kinds
+  pub prints : PrintsAlike way.printing printing
 
 -- the stage that the state is at
 abbrev pub stage_of : State → Stage
@@ -76,7 +78,7 @@ IsSoundState (Heading heading) = Unit {0}
 IsSoundState (Format fields) = Unit {0}
 IsSoundState (Dialect fields source) = IsPlanFor fields source
 IsSoundState (Template fields source dialect) = IsPlanFor fields source
-IsSoundState (Rows version source printer fast) = IsSoundSource source × IfSome fast (λ way. way ≡ way_of source printer)
+IsSoundState (Rows version source printer fast) = IsSoundSource source × IfSome fast (IsWayTo source printer)
 
 -- the line of this number is a row of no values of the plan
 abbrev pub IsNoRow : Planned → ℕ → List ℕ → LineCause → Type 0
