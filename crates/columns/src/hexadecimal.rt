@@ -148,7 +148,7 @@ impl Notation {
 
 // The number that the digits in front are, at most as many as 64 bits hold, and how many they are.
 #[inline(always)]
-fn digits_in_front(text: &[u8], notation: Notation) -> (u64, usize)
+fn digits_of(text: &[u8], notation: Notation) -> (u64, usize)
     ensures digits { AreDigits (base_of notation) (is_upper notation) (take result.1 text.now) result.0 }
     ensures within { result.1 ≤ length text.now }
 {
@@ -163,6 +163,19 @@ fn digits_in_front(text: &[u8], notation: Notation) -> (u64, usize)
         count += 1;
     }
     (number, count)
+}
+
+// The same, by a loop for each notation.
+#[inline(always)]
+fn digits_in_front(text: &[u8], notation: Notation) -> (u64, usize)
+    ensures digits { AreDigits (base_of notation) (is_upper notation) (take result.1 text.now) result.0 }
+    ensures within { result.1 ≤ length text.now }
+{
+    match notation {
+        Notation::Octal => digits_of(text, Notation::Octal),
+        Notation::Lower => digits_of(text, Notation::Lower),
+        Notation::Upper => digits_of(text, Notation::Upper),
+    }
 }
 
 // The number in front, filled with zeros to the width, and what stands behind it.

@@ -18,7 +18,7 @@ fn ends_word(byte: u8, stop: u8) -> bool
 
 // How many bytes stand in front of the first that ends a word.
 #[inline(always)]
-fn word_len(text: &[u8], stop: u8) -> usize
+fn bytes_of_word(text: &[u8], stop: u8) -> usize
     ensures bytes { AllByRecursion (IsWordByte stop) (take result text.now) }
     ensures within { result ≤ length text.now }
 {
@@ -30,6 +30,19 @@ fn word_len(text: &[u8], stop: u8) -> usize
         len += 1;
     }
     len
+}
+
+// The same, by a loop for each of the stops that are most frequent.
+#[inline(always)]
+fn word_len(text: &[u8], stop: u8) -> usize
+    ensures bytes { AllByRecursion (IsWordByte stop) (take result text.now) }
+    ensures within { result ≤ length text.now }
+{
+    match stop {
+        b' ' => bytes_of_word(text, b' '),
+        b'\n' => bytes_of_word(text, b'\n'),
+        _ => bytes_of_word(text, stop),
+    }
 }
 
 /// The word in front, which is not empty, and what stands behind it.

@@ -10,7 +10,7 @@ use Rattle.pieces.specs.Inner.Layout.{AreTokensOfSome, IsTokenOfSome, Part, part
 pub parts_text-step : (ps : List Part) (i : ℕ) (p : Part) (row : List ℕ) (tokens : List Token) → i < length ps → p ≡ get_or ps i p → parts_text (drop i ps) row tokens ≡ part_text p row tokens ++ parts_text (drop (i + 1) ps) row tokens
 parts_text-step ps i p row tokens h e = rw (drop-cons ps i p, add-one, ← e) refl
 
-parts_text-append : (ps qs : List Part) (row : List ℕ) (tokens : List Token) → parts_text (ps ++ qs) row tokens ≡ parts_text ps row tokens ++ parts_text qs row tokens
+pub parts_text-append : (ps qs : List Part) (row : List ℕ) (tokens : List Token) → parts_text (ps ++ qs) row tokens ≡ parts_text ps row tokens ++ parts_text qs row tokens
 parts_text-append [] qs row tokens = refl
 parts_text-append (p ∷ ps) qs row tokens = ap (λ (t : List ℕ). part_text p row tokens ++ t) (parts_text-append ps qs row tokens) ∙ sym (append_assoc (part_text p row tokens) (parts_text ps row tokens) (parts_text qs row tokens))
 

@@ -24,7 +24,7 @@ use Rattle.values.specs.Datum.{printf_meaning}
 use Rattle.tokens.specs.declared.Token.{Token}
 use Rattle.tokens.specs.Tokens.{IsToken, datum_at}
 use Rattle.pieces.specs.declared.layout.Form.{Form}
-use Rattle.pieces.specs.declared.layout.Form.TheVariants.{Number, Signed, Word}
+use Rattle.pieces.specs.declared.layout.Form.TheVariants.{Number, Signed, Copied}
 use Rattle.pieces.specs.Inner.Layout.{Parts, Grows, form_of, layout_text, text_where, token_text}
 use Rattle.pieces.specs.Inner.Printf.{IsPlain, IsPlainNumber, IsPlainWord, Moves, meanings, printed_behind}
 use Rattle.pieces.specs.Inner.Sound.{HasForm}
@@ -160,7 +160,7 @@ field_takes conversion f v values a b (inr c) e h = rw c (one_value f f.width f.
 plain_takes : (form : Form) (f : ConversionSpecifier) (v : Meaning) (values : List Meaning) → IsPlain form f → (field_text f (v ∷ values) ≡ v.text f) × (wanted f ≡ 1)
 plain_takes Number f v values p = field_takes f.conversion_type f v values (pos 0) p.precision.0 (inl p.conversion) p.width p.precision.1
 plain_takes Signed f v values p = field_takes f.conversion_type f v values (pos 0) p.precision.0 (inl p.conversion) p.width p.precision.1
-plain_takes Word f v values p = field_takes f.conversion_type f v values (pos 0) (pos 2147483647) (inr p.conversion) p.width p.precision
+plain_takes Copied f v values p = field_takes f.conversion_type f v values (pos 0) (pos 2147483647) (inr p.conversion) p.width p.precision
 
 onto-onto : (a b : List ℕ) (r : Result (List ℕ) PrintfError) → onto a (onto b r) ≡ onto (a ++ b) r
 onto-onto a b (Ok t) = ap (λ (x : List ℕ). Ok x) (sym (append_assoc a b t))

@@ -1,4 +1,5 @@
 -- What only private calls and proofs cite.
+pub mod Copied
 pub mod Formatx
 pub mod Layout
 pub mod Printf

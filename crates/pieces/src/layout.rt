@@ -34,15 +34,28 @@ fn append_signed(number: i64, out: &mut String) -> Result<(), AllocError>
     out.push_str(buffer.format(number))
 }
 
+/// Appends literal text. Most literal texts are empty or one character, and then nothing is copied.
+#[inline(always)]
+fn append_literal(text: &str, out: &mut String) -> Result<(), AllocError>
+    ensures ok { OnOk result (string_bytes out.new ≡ string_bytes out.old ++ text.now) }
+    ensures unchanged { OnErr result (string_bytes out.new ≡ string_bytes out.old) }
+{
+    match text.as_bytes() {
+        [] => Ok(()),
+        [byte @ 0..=127] => out.push(char::from(*byte)),
+        _ => out.push_str(text),
+    }
+}
+
 /// How a value of a row is printed.
-#[derive(Clone, Copy)]
+#[derive(Clone, Copy, PartialEq, Eq)]
 pub(crate) enum Form {
     /// A number without a sign, in decimal.
     Number,
     /// A number with a sign, in decimal.
     Signed,
-    /// A word as it stands in the row.
-    Word,
+    /// As it stands in the row.
+    Copied,
 }
 
 impl Form {
@@ -53,7 +66,7 @@ impl Form {
         match kind {
             Kind::U8 | Kind::U16 | Kind::U32 | Kind::U64 | Kind::Usize => Some(Form::Number),
             Kind::I8 | Kind::I16 | Kind::I32 | Kind::I64 | Kind::Isize => Some(Form::Signed),
-            Kind::Word => Some(Form::Word),
+            Kind::Word => Some(Form::Copied),
             Kind::Char => None,
         }
     }
@@ -67,7 +80,7 @@ impl Form {
         match self {
             Form::Number => append_number(token.number, out),
             Form::Signed => append_signed(token.number.cast_signed(), out),
-            Form::Word => out.push_str(&row[token.start..token.end]),
+            Form::Copied => out.push_str(&row[token.start..token.end]),
         }
     }
 
@@ -98,10 +111,10 @@ fn token_at(tokens: &[Token], place: usize) -> Option<&Token>
 
 /// Literal text, and behind it the value that has this place among the tokens.
 #[derive(Drop)]
-struct Piece {
-    before: String,
-    form: Form,
-    place: usize,
+pub(crate) struct Piece {
+    pub(crate) before: String,
+    pub(crate) form: Form,
+    pub(crate) place: usize,
 }
 
 impl Model for Piece {
@@ -120,7 +133,7 @@ impl Piece {
         ensures ok { OnOk result (string_bytes out.new ≡ string_bytes out.old ++ part_text self.now row.now tokens.now) }
         ensures front { Starts (string_bytes out.old) (string_bytes out.new) }
     {
-        out.push_str(self.before.as_str())?;
+        append_literal(self.before.as_str(), out)?;
         let token = token_at(tokens, self.place);
         self.form.append_where(row, token, out)
     }
@@ -129,8 +142,8 @@ impl Piece {
 /// Pieces in order, and the literal text behind the last of them.
 #[derive(Drop)]
 pub(crate) struct Layout {
-    pieces: Vec<Piece>,
-    tail: String,
+    pub(crate) pieces: Vec<Piece>,
+    pub(crate) tail: String,
 }
 
 impl Model for Layout {
@@ -198,7 +211,7 @@ impl Layout {
         'pieces: for piece in &self.pieces {
             piece.append(row, tokens, out)?;
         }
-        out.push_str(self.tail.as_str())
+        append_literal(self.tail.as_str(), out)
     }
 }
 

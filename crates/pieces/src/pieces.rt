@@ -2,22 +2,27 @@
 ghost use Rattle.std.specs.Prelude.{◌≡◌, ◌++◌, ℕ, List, [], IfOk, IfSome, Ok, OnErr, OnOk, string_bytes};
 ghost use Rattle.printer.specs.Prints.{Prints};
 ghost use Rattle.tokens.specs.Tokens.{AreTokens, data_of};
-ghost use Rattle.pieces.specs.Inner.Sound.{StandsFor};
+ghost use Rattle.columns.specs.Fields.{AreFieldsAt};
+ghost use Rattle.pieces.specs.Inner.Sound.{StandsFor, StandsOver};
 
+use crate::copied::layout_over;
 use crate::layout::Layout;
 use crate::{formatx_layout, printf_layout, strfmt_layout};
 use numerals::NoMemory;
 use printer::Dialect;
+use row_format::RowFormat;
 use std::alloc::Global;
 use std::marker::Model;
 use tokens::Token;
 use values::Kind;
 
-/// A template without names, cut into pieces once, that prints the values of many rows. It owns its texts.
+/// A template without names, cut into pieces once, that prints the values of many rows. It owns its texts, and the format
+/// of the rows.
 #[derive(Drop)]
 pub struct Pieces {
     dialect: Dialect,
     template: String,
+    format: RowFormat,
     kinds: Vec<Kind>,
     layout: Layout,
 }
@@ -25,16 +30,16 @@ pub struct Pieces {
 impl Model for Pieces {
     ghost use Rattle.std.specs.Prelude.{[], string_bytes};
     ghost use Rattle.pieces.specs.Template.{Template};
-    ghost use Rattle.pieces.specs.Inner.Sound.{StandsFor};
+    ghost use Rattle.pieces.specs.Inner.Sound.{StandsOver};
 
     ghost Value = { Template };
 
-    ghost view = { λ it. record { printing = record { dialect = it.dialect; template = string_bytes it.template; names = [] }; kinds = it.kinds.items } };
+    ghost view = { λ it. record { printing = record { dialect = it.dialect; template = string_bytes it.template; names = [] }; format = it.format; kinds = it.kinds.items } };
 
-    ghost invariant = { λ it. StandsFor it.dialect (string_bytes it.template) it.kinds.items it.layout };
+    ghost invariant = { λ it. StandsOver it.dialect (string_bytes it.template) it.format.columns it.kinds.items it.layout };
 }
 
-/// The layout of a template, or None where it has none.
+/// The layout of a template over any rows of values of these kinds, or None where it has none.
 fn lay_out(
     alloc: Global,
     dialect: Dialect,
@@ -50,18 +55,35 @@ fn lay_out(
     }
 }
 
+/// The layout of a template over rows of this format and values of these kinds, or None where it has none.
+fn lay_out_over(
+    alloc: Global,
+    dialect: Dialect,
+    template: &str,
+    format: &RowFormat,
+    kinds: &[Kind],
+) -> Result<Option<Layout>, NoMemory>
+    ensures { IfOk result (λ found. IfSome found (StandsOver dialect template.now format.now.columns kinds.now)) }
+{
+    match lay_out(alloc, dialect, template, kinds)? {
+        Some(layout) => Ok(Some(layout_over(alloc, layout, format.fields(), kinds)?)),
+        None => Ok(None),
+    }
+}
+
 impl Pieces {
-    /// The pieces of a template over values of these kinds; None where a field of it isn't plain, so that only a printer
+    /// The pieces of a template over rows of this format and values of these kinds; None where a field of it isn't plain, so that only a printer
     /// can judge and print it. None is no refusal of the template.
     pub fn new(
         alloc: Global,
         dialect: Dialect,
         template: &str,
+        format: RowFormat,
         kinds: &[Kind],
     ) -> Result<Option<Pieces>, NoMemory>
-        ensures { IfOk result (λ found. IfSome found (λ p. p ≡ record { printing = record { dialect = dialect; template = template.now; names = [] }; kinds = kinds.now })) }
+        ensures { IfOk result (λ found. IfSome found (λ p. p ≡ record { printing = record { dialect = dialect; template = template.now; names = [] }; format = format; kinds = kinds.now })) }
     {
-        let Some(layout) = lay_out(alloc, dialect, template, kinds)? else {
+        let Some(layout) = lay_out_over(alloc, dialect, template, &format, kinds)? else {
             return Ok(None);
         };
         let Ok(template) = String::from_str(alloc, template) else {
@@ -73,14 +95,16 @@ impl Pieces {
         Ok(Some(Pieces {
             dialect,
             template,
+            format,
             kinds,
             layout,
         }))
     }
 
-    /// Appends the template's text over the tokens of a row.
+    /// Appends the template's text over the tokens of a row of the format.
     pub fn write(&self, row: &str, tokens: &[Token], out: &mut String) -> Result<(), NoMemory>
         requires tokens { AreTokens self.now.kinds row.now tokens.now }
+        requires fields { AreFieldsAt self.now.format.columns self.now.kinds row.now tokens.now }
         ensures text { OnOk result ((text : List ℕ) × Prints self.now.printing self.now.kinds (data_of self.now.kinds row.now tokens.now) (Ok text) × (string_bytes out.new ≡ string_bytes out.old ++ text)) }
         ensures unchanged { OnErr result (string_bytes out.new ≡ string_bytes out.old) }
     {

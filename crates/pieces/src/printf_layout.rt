@@ -45,13 +45,14 @@ fn is_plain_word(field: &ConversionSpecifier) -> bool
     true
 }
 
-fn is_plain(field: &ConversionSpecifier, form: Form) -> bool
+/// Whether the field prints values of the form plainly.
+pub(crate) fn is_plain(field: &ConversionSpecifier, form: Form) -> bool
     ensures { IsTrue result → IsPlain form field.now }
 {
     match form {
         Form::Number => is_plain_number(field),
         Form::Signed => is_plain_number(field),
-        Form::Word => is_plain_word(field),
+        Form::Copied => is_plain_word(field),
     }
 }
 

@@ -1,15 +1,17 @@
 -- A row of a plan is a row of the format that was planned.
-use Rattle.std.proofs.Common.{◌≡◌, ◌++◌, ℕ, List, [], ◌∷◌, map, sym, ap, ◌∙◌, subst, refl, inl, inr, append_assoc, Result, Ok, Err, OnOk}
+use Rattle.std.proofs.Common.{◌≡◌, ◌++◌, ℕ, List, [], ◌∷◌, map, sym, ap, ◌∙◌, subst, refl, inl, inr, append_assoc, Option, Some, None, IfSome, Result, Ok, Err, OnOk}
 use Rattle.sprintf.specs.declared.PrintfError.{PrintfError}
 use Rattle.values.specs.declared.kind.Kind.{Kind}
 use Rattle.values.specs.declared.value.Value.{Value}
 use Rattle.values.specs.Datum.{Datum, kind_of, datum_of}
 use Rattle.row_format.specs.Columns.{Columns, columns_of, row_text}
 use Rattle.row_format.specs.Fit.{AreFit}
-use Rattle.row_format.specs.Laws.{PrintsColumns}
-use Rattle.row_format.specs.Plannable.{IsUnpaired, Never}
+use Rattle.row_format.specs.Laws.{HasOneList, IsText, PrintsColumns}
+use Rattle.row_format.specs.Plannable.{IsPlannable, IsUnpaired, Never}
 use Rattle.row_format.specs.Row.{IsRow as IsPlanRow}
 use Rattle.row_plan.specs.Plan.{IsRead}
+use Rattle.printer.specs.declared.dialect.Dialect.{Dialect}
+use Rattle.printer.specs.declared.dialect.Dialect.TheVariants.{Printf}
 use Rattle.printer.specs.Prints.{Printing, Prints}
 use Rattle.printer.specs.declared.error.RenderFault.{RenderFault}
 use Rattle.line_job.specs.declared.job.Refusal.{Refusal}
@@ -22,7 +24,8 @@ use Rattle.header_lines.specs.declared.heading.Version.{Version}
 use Rattle.rewriting.specs.declared.rows.Source.{Source}
 use Rattle.rewriting.specs.Rewrite.{Layout, IsRow, IsRowOf, Renders, IsRewrittenAs}
 use Rattle.rewriting.specs.Rules.{rows_next, Keeps, RefusesRow}
-use Rattle.rewriting.specs.Inner.State.{layout_of, IsSoundSource, IsNoRow}
+use Rattle.rewriting.specs.Inner.Fast.{FastWay, HasWritten, IsWayOf, IsWritten, NeedsNoNames}
+use Rattle.rewriting.specs.Inner.State.{layout_of, IsSoundSource, IsNoRow, IsWayTo}
 
 abbrev row_is : List ℕ → Result (List ℕ) PrintfError
 row_is row = Ok row
@@ -96,3 +99,52 @@ not_read why = Err why
 pub unread_if : PrintsColumns → (version : Version) (source : Source) (printing : Printing) (number : ℕ) (row : List ℕ) (why : Refusal LineCause) → IsSoundSource source → IfRefused (not_read why) (IsNoRow source.plan number row) → IfRefused (not_read why) (RefusesRow (layout_of version source printing) number row)
 unread_if prints version source printing number row (Line cause) sound none = unread prints version source printing number row cause sound none
 unread_if prints version source printing number row NoMemory sound none = tt
+
+-- what the fast way has written is the line that the row is rewritten as
+pub fast_rewritten : PrintsColumns → HasOneList → (version : Version) (source : Source) (printing : Printing) (way : FastWay) (row old new : List ℕ) → IsSoundSource source → IsWayTo source printing way → IsWritten way row old new
+    → (line : List ℕ) × IsRewrittenAs (layout_of version source printing) row line × (new ≡ old ++ (line ++ 10 ∷ []))
+fast_rewritten columns one version source printing way row old new sound is written =
+    let plannable : IsPlannable source.plan.format.columns source.plan.kinds = subst (λ (c : Columns). IsPlannable c.columns source.plan.kinds) (sym sound.columns) sound.plannable in
+    let text : IsText source.plan.format = subst IsText is.format written.text in
+    let is_row : IsPlanRow source.plan.format source.plan.kinds row written.values =
+        subst (λ (k : List Kind). IsPlanRow source.plan.format k row written.values) is.kinds (subst (λ (c : Columns). IsPlanRow c way.kinds row written.values) is.format written.is_row) in
+    let of_row : IsRowOf (layout_of version source printing) row written.values = record {
+      is_row = row_of_plan columns source row written.values sound is_row;
+      only = λ others other. one source.plan.format source.plan.kinds row others written.values text plannable (plan_row columns source row others sound other) is_row;
+    } in
+    let prints : Renders (layout_of version source printing) written.values (text_is written.line) =
+        subst (λ (k : List Kind). Prints printing k written.values (text_is written.line)) is.kinds (is.prints way.kinds written.values written.line written.prints) in
+    (written.line, (written.values, of_row, prints), written.grown)
+
+-- the same, where the way is one that may be missing
+pub if_rewritten : PrintsColumns → HasOneList → (version : Version) (source : Source) (printing : Printing) (way : Option FastWay) (row old new : List ℕ) → IsSoundSource source → IfSome way (IsWayTo source printing)
+    → HasWritten way row old new → (line : List ℕ) × IsRewrittenAs (layout_of version source printing) row line × (new ≡ old ++ (line ++ 10 ∷ []))
+if_rewritten columns one version source printing (Some way) row old new sound is written = fast_rewritten columns one version source printing way row old new sound is written
+if_rewritten columns one version source printing None row old new sound is written = absurd written
+
+-- the way that was made of the headers' texts is that of the source
+pub way_found : (source : Source) (printing : Printing) (kinds : List Kind) (found : Option FastWay) → IsSoundSource source → source.plan.kinds ≡ kinds → IfSome found (IsWayOf source.text.now kinds printing) → IfSome found (IsWayTo source printing)
+way_found source printing kinds (Some way) sound same is =
+    let columns : columns_of is.elements ≡ columns_of sound.elements = header_lines_are_clear.one_thing.columns source.text.now is.elements sound.elements is.spelled sound.spelled in
+    record { format = is.format_is ∙ columns ∙ sym sound.columns; kinds = is.kinds_are ∙ sym same; prints = is.prints }
+way_found source printing kinds None sound same is = tt
+
+-- a printf format has no names
+pub printf_needs_none : (dialect : Dialect) (names : List (List ℕ)) → dialect ≡ Printf → NeedsNoNames dialect names
+printf_needs_none dialect names e = subst (λ (d : Dialect). NeedsNoNames d names) (sym e) (λ template kinds values line prints. prints)
+
+-- where there are no names, none is needed
+pub none_needs_none : (dialect : Dialect) (names : List (List ℕ)) → names ≡ [] → NeedsNoNames dialect names
+none_needs_none dialect names e = subst (λ (n : List (List ℕ)). NeedsNoNames dialect n) (sym e) (λ template kinds values line prints. prints)
+
+-- the way to the lines of a template is that to its lines with names
+pub with_names : (format : List ℕ) (kinds : List Kind) (dialect : Dialect) (template : List ℕ) (names : List (List ℕ)) (found : Option FastWay) → NeedsNoNames dialect names
+    → IfSome found (IsWayOf format kinds (record { dialect = dialect; template = template; names = [] })) → IfSome found (IsWayOf format kinds (record { dialect = dialect; template = template; names = names }))
+with_names format kinds dialect template names (Some way) none is = record {
+  elements = is.elements;
+  spelled = is.spelled;
+  format_is = is.format_is;
+  kinds_are = is.kinds_are;
+  prints = λ kinds values line prints. none template kinds values line (is.prints kinds values line prints);
+}
+with_names format kinds dialect template names None none is = tt

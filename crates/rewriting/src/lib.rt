@@ -2,6 +2,7 @@
 #![tactic(auto)]
 
 mod error;
+mod fast;
 mod rewrite;
 mod rows;
 mod run;

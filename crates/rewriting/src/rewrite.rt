@@ -1,5 +1,5 @@
 // The job that rewrites rows.
-ghost use Rattle.std.specs.Prelude.{◌≡◌, [], IfOk};
+ghost use Rattle.std.specs.Prelude.{◌≡◌, [], IfOk, OnOk};
 ghost use Rattle.line_job.specs.Refusal.{IfRefused};
 ghost use Rattle.header_lines.specs.Heading.{first_next, number_in};
 ghost use Rattle.header_lines.specs.Read.{headed_of};
@@ -7,12 +7,14 @@ ghost use Rattle.rewriting.specs.Rules.{Stage, rewrite_rules, heading_next, afte
 ghost use Rattle.rewriting.specs.Inner.State.{stage_of, version_of, IsHeaderNext, IsSoundState};
 ghost use Rattle.rewriting.specs.Inner.Clear.{rewrite_clear};
 
-use crate::rows::{Source, read_source, rewrite_row};
+use crate::fast::{Fast, find_fast};
+use crate::rows::{Room, Source, read_source, rewrite_row};
 use bumpalo::Bump;
 use header_lines::{
     Fields, Headed, Heading, LineCause, Version, read_dialect, read_heading, read_template,
 };
 use line_job::{LineJob, Refusal};
+use numerals::NoMemory;
 use printer::{Dialect, Printer};
 use std::alloc::Global;
 use std::mem;
@@ -24,7 +26,7 @@ pub(crate) enum State<'a> {
     Format(Fields),
     Dialect(Fields, Source<'a>),
     Template(Fields, Source<'a>, Dialect),
-    Rows(Version, Source<'a>, Printer<'a>),
+    Rows(Version, Source<'a>, Printer<'a>, Option<Fast>),
 }
 
 impl State<'_> {
@@ -38,7 +40,7 @@ impl State<'_> {
             State::Format(fields) => fields.version,
             State::Dialect(fields, _) => fields.version,
             State::Template(fields, _, _) => fields.version,
-            State::Rows(version, _, _) => *version,
+            State::Rows(version, _, _, _) => *version,
         }
     }
 }
@@ -80,19 +82,24 @@ fn read_header<'a>(
         }
         State::Template(fields, source, dialect) => {
             let printer = read_template(alloc, texts, number, dialect, &fields.names, line)?;
-            Ok(State::Rows(fields.version, source, printer))
+            match find_fast(alloc, &fields, source.text, dialect, line) {
+                Ok(fast) => Ok(State::Rows(fields.version, source, printer, fast)),
+                Err(NoMemory) => Err(Refusal::NoMemory),
+            }
         }
-        State::Rows(version, source, printer) => Ok(State::Rows(version, source, printer)),
+        State::Rows(version, source, printer, fast) => {
+            Ok(State::Rows(version, source, printer, fast))
+        }
     }
 }
 
-/// The job that rewrites rows. The texts of its headers are kept in an arena, since their parts lend from them, and one text
-/// for the whole run, in which each row is printed again.
+/// The job that rewrites rows. The texts of its headers are kept in an arena, since their parts lend from them, and room for
+/// all rows.
 #[derive(Drop)]
 pub(crate) struct Rewrite<'a> {
     texts: &'a Bump,
     state: State<'a>,
-    again: String,
+    room: Room,
 }
 
 impl<'a> Rewrite<'a> {
@@ -104,7 +111,7 @@ impl<'a> Rewrite<'a> {
         Rewrite {
             texts,
             state: State::Heading(Heading::First),
-            again: String::new(alloc),
+            room: Room::new(alloc),
         }
     }
 
@@ -113,6 +120,25 @@ impl<'a> Rewrite<'a> {
         ensures { result ≡ number_in (version_of (stage_of self.now.state)) 4 }
     {
         self.state.version().number_in(4)
+    }
+
+    /// Takes the header line that comes next. It stands apart from the rows, since what it needs would be made ready for each of them.
+    #[inline(never)]
+    fn take_header(
+        &mut self,
+        alloc: Global,
+        number: u64,
+        line: &str,
+    ) -> Result<(), Refusal<LineCause>>
+        requires header { IsHeaderNext self.old.state }
+        requires sound { IsSoundState self.old.state }
+        ensures kept { OnOk result (Keeps (stage_of self.old.state) number line.now [] (stage_of self.new.state)) }
+        ensures sound { OnOk result (IsSoundState self.new.state) }
+        ensures refused { IfRefused result (Refuses (stage_of self.old.state) number line.now) }
+    {
+        let state = mem::replace(&mut self.state, State::Heading(Heading::First));
+        self.state = read_header(alloc, self.texts, state, number, line)?;
+        Ok(())
     }
 }
 
@@ -138,12 +164,11 @@ impl LineJob for Rewrite<'_> {
         line: &str,
         out: &mut String,
     ) -> Result<(), Refusal<LineCause>> {
-        if let State::Rows(_, source, printer) = &self.state {
-            return rewrite_row(alloc, source, printer, number, line, &mut self.again, out);
+        if let State::Rows(_, source, printer, fast) = &self.state {
+            let room = &mut self.room;
+            return rewrite_row(alloc, source, printer, fast, number, line, room, out);
         }
-        let state = mem::replace(&mut self.state, State::Heading(Heading::First));
-        self.state = read_header(alloc, self.texts, state, number, line)?;
-        Ok(())
+        self.take_header(alloc, number, line)
     }
 
     fn end(
@@ -157,7 +182,7 @@ impl LineJob for Rewrite<'_> {
             State::Format(fields) => fields.version.number_in(2),
             State::Dialect(fields, _) => fields.version.number_in(3),
             State::Template(fields, _, _) => fields.version.number_in(4),
-            State::Rows(_, _, _) => return Ok(()),
+            State::Rows(_, _, _, _) => return Ok(()),
         };
         Err(Refusal::Line(LineCause::Header { line: missing }))
     }

@@ -1,5 +1,5 @@
 // The rows' format, and rows that are read by it and printed.
-ghost use Rattle.std.specs.Prelude.{◌≡◌, ◌++◌, ◌∷◌, [], ℕ, List, IfOk, OnOk, OnErr, string_bytes};
+ghost use Rattle.std.specs.Prelude.{◌≡◌, ◌++◌, ◌∷◌, [], ℕ, List, IfOk, IfSome, IsTrue, OnOk, OnErr, false, string_bytes};
 ghost use Rattle.whiteread.specs.Lines.{line_feed};
 ghost use Rattle.row_plan.specs.Plan.{IsRead};
 ghost use Rattle.line_job.specs.Refusal.{IfRefused};
@@ -7,13 +7,18 @@ ghost use Rattle.header_lines.specs.Headers.{RefusesFormatLine};
 ghost use Rattle.header_lines.specs.declared.heading.Version.{Version};
 ghost use Rattle.rewriting.specs.Rewrite.{IsRewrittenAs};
 ghost use Rattle.rewriting.specs.Rules.{RefusesRow};
-ghost use Rattle.rewriting.specs.Inner.State.{layout_of, IsSoundSource, IsNoRow};
+ghost use Rattle.rewriting.specs.Inner.State.{layout_of, IsSoundSource, IsNoRow, IsWayTo};
+ghost use Rattle.rewriting.specs.Inner.Fast.{HasWritten};
 
+use crate::fast::Fast;
 use bumpalo::Bump;
+use columns::Token;
 use header_lines::{LineCause, read_format};
 use line_job::{Refusal, end_line};
+use numerals::NoMemory;
 use printer::{Printer, TextError};
 use row_format::prints_columns;
+use row_laws::has_one_list;
 use row_plan::{RowError, RowPlan};
 use scan_fmt::parse::Format;
 use std::alloc::Global;
@@ -68,9 +73,8 @@ fn read_values(
     }
 }
 
-/// Puts the line that the row is rewritten as, and a line feed, at the end of `out`. The row stands on the line of this
-/// number; `again` is a text in which it is printed again.
-pub(crate) fn rewrite_row(
+/// Rewrites a row by the plan of its format and the template's printer; `again` is a text in which it is printed again.
+fn rewrite_by_plan(
     alloc: Global,
     source: &Source<'_>,
     printer: &Printer<'_>,
@@ -94,5 +98,66 @@ pub(crate) fn rewrite_row(
             fault,
         })),
         Err(TextError::NoMemory) => Err(Refusal::NoMemory),
+    }
+}
+
+/// Rewrites a row by the fast way, if there is one, and answers whether it did; `tokens` is room for the row's values.
+fn rewrite_fast(
+    fast: &Option<Fast>,
+    row: &str,
+    tokens: &mut Vec<Token>,
+    out: &mut String,
+) -> Result<bool, NoMemory>
+    ensures written { IfOk result (λ done. IsTrue done → HasWritten fast.now row.now (string_bytes out.old) (string_bytes out.new)) }
+    ensures unchanged { IfOk result (λ done. done ≡ false → string_bytes out.new ≡ string_bytes out.old) }
+    ensures as_before { OnErr result (string_bytes out.new ≡ string_bytes out.old) }
+{
+    match fast {
+        Some(fast) => fast.rewrite(row, tokens, out),
+        None => Ok(false),
+    }
+}
+
+/// Room that is kept for all rows: a text in which a row is printed again, and the values of a row.
+#[derive(Drop)]
+pub(crate) struct Room {
+    again: String,
+    tokens: Vec<Token>,
+}
+
+impl Room {
+    /// It takes no memory.
+    pub(crate) fn new(alloc: Global) -> Room {
+        Room {
+            again: String::new(alloc),
+            tokens: Vec::new(alloc),
+        }
+    }
+}
+
+/// Puts the line that the row is rewritten as, and a line feed, at the end of `out`. The row stands on the line of this
+/// number. Where the fast way doesn't rewrite it, the plan and the printer judge it.
+pub(crate) fn rewrite_row(
+    alloc: Global,
+    source: &Source<'_>,
+    printer: &Printer<'_>,
+    fast: &Option<Fast>,
+    number: u64,
+    row: &str,
+    room: &mut Room,
+    out: &mut String,
+) -> Result<(), Refusal<LineCause>>
+    requires source { IsSoundSource source.now }
+    requires fast { IfSome fast.now (IsWayTo source.now printer.now) }
+    ensures kept { (version : Version) → OnOk result ((line : List ℕ) × IsRewrittenAs (layout_of version source.now printer.now) row.now line × (string_bytes out.new ≡ string_bytes out.old ++ (line ++ line_feed ∷ []))) }
+    ensures refused { (version : Version) → IfRefused result (RefusesRow (layout_of version source.now printer.now) number row.now) }
+    ensures as_before { OnErr result (string_bytes out.new ≡ string_bytes out.old) }
+{
+    prints_columns();
+    has_one_list();
+    match rewrite_fast(fast, row, &mut room.tokens, out) {
+        Ok(true) => Ok(()),
+        Ok(false) => rewrite_by_plan(alloc, source, printer, number, row, &mut room.again, out),
+        Err(NoMemory) => Err(Refusal::NoMemory),
     }
 }

@@ -8,7 +8,7 @@ use Rattle.values.specs.declared.kind.Kind.TheVariants as Of
 use Rattle.tokens.specs.declared.Token.{Token}
 use Rattle.tokens.specs.Tokens.{AreTokens, IsToken}
 use Rattle.pieces.specs.declared.layout.Form.{Form}
-use Rattle.pieces.specs.declared.layout.Form.TheVariants.{Number, Signed, Word}
+use Rattle.pieces.specs.declared.layout.Form.TheVariants.{Number, Signed, Copied}
 
 -- How the values of a kind are printed; a character has no form.
 abbrev pub form_of : Kind → Option Form
@@ -22,14 +22,14 @@ form_of Of.I16 = Some Signed
 form_of Of.I32 = Some Signed
 form_of Of.I64 = Some Signed
 form_of Of.Isize = Some Signed
-form_of Of.Word = Some Word
+form_of Of.Word = Some Copied
 form_of Of.Char = None
 
 -- The text of a token in a form.
 abbrev pub token_text : Form → List ℕ → Token → List ℕ
 token_text Number row token = numeral 10 false token.number
 token_text Signed row token = decimal_of (cast_signed w64 token.number)
-token_text Word row token = slice_range row token.start token.end
+token_text Copied row token = slice_range row token.start token.end
 
 -- The text of a token that may be missing.
 abbrev pub text_where : Form → List ℕ → Option Token → List ℕ

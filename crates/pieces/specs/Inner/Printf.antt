@@ -12,7 +12,7 @@ use Rattle.values.specs.Datum.{each_of, printf_meaning}
 use Rattle.tokens.specs.declared.Token.{Token}
 use Rattle.tokens.specs.Tokens.{AreTokens, data_of}
 use Rattle.pieces.specs.declared.layout.Form.{Form}
-use Rattle.pieces.specs.declared.layout.Form.TheVariants.{Number, Signed, Word}
+use Rattle.pieces.specs.declared.layout.Form.TheVariants.{Number, Signed, Copied}
 use Rattle.pieces.specs.Inner.Layout.{Parts, layout_text}
 
 -- The field prints numbers plainly.
@@ -33,7 +33,7 @@ pub record IsPlainWord (f : ConversionSpecifier) : Type 0 where
 abbrev pub IsPlain : Form → ConversionSpecifier → Type 0
 IsPlain Number f = IsPlainNumber f
 IsPlain Signed f = IsPlainNumber f
-IsPlain Word f = IsPlainWord f
+IsPlain Copied f = IsPlainWord f
 
 -- The values of a row, as a printf format sees them.
 abbrev pub meanings : List Kind → List ℕ → List Token → List Meaning

@@ -1,5 +1,5 @@
 -- Where the job stands, by what it keeps.
-use Rattle.std.specs.Prelude.{◌≡◌, ℕ, List}
+use Rattle.std.specs.Prelude.{◌≡◌, ℕ, List, IfSome}
 use Rattle.std.specs.Str.{chars}
 use Rattle.sprintf.specs.Grammar.{IsFormat}
 use Rattle.sprintf.specs.declared.parser.FormatElement.{FormatElement}
@@ -20,6 +20,7 @@ use Rattle.header_lines.specs.Read.{fields_of, heading_of}
 use Rattle.rewriting.specs.declared.rows.Source.{Source}
 use Rattle.rewriting.specs.declared.rewrite.State.{State}
 use Rattle.rewriting.specs.declared.rewrite.State.TheVariants.{Heading, Format, Dialect, Template, Rows}
+use Rattle.rewriting.specs.Inner.Fast.{FastWay, PrintsAlike}
 use Rattle.rewriting.specs.Rewrite.{Layout}
 use Rattle.rewriting.specs.Rules.{Stage, heading_next, format_next, dialect_next, template_next, rows_next}
 
@@ -27,13 +28,19 @@ use Rattle.rewriting.specs.Rules.{Stage, heading_next, format_next, dialect_next
 abbrev pub layout_of : Version → Source → Printing → Layout
 layout_of version source printing = record { version = version; kinds = source.plan.kinds; names = printing.names; format = source.text.now; dialect = printing.dialect; template = printing.template }
 
+-- the way is from the source's rows to the template's lines
+pub record IsWayTo (source : Source) (printing : Printing) (way : FastWay) : Type 0 where
+  pub format : way.format ≡ source.plan.format
+  pub kinds : way.kinds ≡ source.plan.kinds
+  pub prints : PrintsAlike way.printing printing
+
 -- the stage that the state is at
 abbrev pub stage_of : State → Stage
 stage_of (Heading heading) = heading_next (heading_of heading)
 stage_of (Format fields) = format_next (fields_of fields)
 stage_of (Dialect fields source) = dialect_next (fields_of fields) source.text.now
 stage_of (Template fields source dialect) = template_next (fields_of fields) source.text.now dialect
-stage_of (Rows version source printer) = rows_next (layout_of version source printer)
+stage_of (Rows version source printer fast) = rows_next (layout_of version source printer)
 
 -- the version that the lines before the stage said; the first, where there are none
 abbrev pub version_of : Stage → Version
@@ -51,7 +58,7 @@ IsHeaderNext (Heading heading) = Unit {0}
 IsHeaderNext (Format fields) = Unit {0}
 IsHeaderNext (Dialect fields source) = Unit {0}
 IsHeaderNext (Template fields source dialect) = Unit {0}
-IsHeaderNext (Rows version source printer) = ⊥
+IsHeaderNext (Rows version source printer fast) = ⊥
 
 -- the plan is that of the format's text, and the scanning format is the planned text
 pub record IsSoundSource (source : Source) : Type 0 where
@@ -71,7 +78,7 @@ IsSoundState (Heading heading) = Unit {0}
 IsSoundState (Format fields) = Unit {0}
 IsSoundState (Dialect fields source) = IsPlanFor fields source
 IsSoundState (Template fields source dialect) = IsPlanFor fields source
-IsSoundState (Rows version source printer) = IsSoundSource source
+IsSoundState (Rows version source printer fast) = IsSoundSource source × IfSome fast (IsWayTo source printer)
 
 -- the line of this number is a row of no values of the plan
 abbrev pub IsNoRow : Planned → ℕ → List ℕ → LineCause → Type 0

@@ -1,6 +1,6 @@
 use Rattle.std.proofs.Common.{◌≡◌, take}
 use Rattle.columns.specs.Inner.Shapes.{base_of, is_upper, AreDigits}
-use Rattle.columns.proofs.hexadecimal.digits_in_front.Given as goal
+use Rattle.columns.proofs.hexadecimal.digits_of.Given as goal
 
 -- the digits so far, and the number that they are
 abbrev pub invariant-digits : goal.invariant-digits

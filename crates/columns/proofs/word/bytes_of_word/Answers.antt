@@ -1,7 +1,7 @@
 use Rattle.std.proofs.Common.{◌≡◌, get_or, subst, sym, arith}
 use Rattle.columns.specs.Inner.Shapes.{IsWordByte}
 use Rattle.columns.proofs.Words.{bytes_more}
-use Rattle.columns.proofs.word.word_len.Goals as goal
+use Rattle.columns.proofs.word.bytes_of_word.Goals as goal
 
 pub bytes-preserved : goal.bytes-preserved
 bytes-preserved c =

@@ -2,7 +2,7 @@ use Rattle.std.proofs.Common.{◌≡◌, ◌<◌, ◌+◌, ◌*◌, take, get_or
 use Rattle.std.proofs.lemmas.List.{length-take}
 use Rattle.columns.specs.Inner.Shapes.{base_of, is_upper, safe_digits}
 use Rattle.columns.proofs.Digits.{digits_more, safe_number, safe_step}
-use Rattle.columns.proofs.hexadecimal.digits_in_front.Goals as goal
+use Rattle.columns.proofs.hexadecimal.digits_of.Goals as goal
 
 pub overflow_mul-number : goal.overflow_mul-number
 overflow_mul-number c =

@@ -1,7 +1,7 @@
 use Rattle.std.proofs.Common.{◌≡◌, take}
 use Rattle.std.specs.List.{AllByRecursion}
 use Rattle.columns.specs.Inner.Shapes.{IsWordByte}
-use Rattle.columns.proofs.word.word_len.Given as goal
+use Rattle.columns.proofs.word.bytes_of_word.Given as goal
 
 -- the bytes so far end no word
 abbrev pub invariant-bytes : goal.invariant-bytes

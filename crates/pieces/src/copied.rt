@@ -1,0 +1,75 @@
+// Values that the rows of a format have as they are printed, and that are copied from there.
+ghost use Rattle.std.specs.Prelude.{◌≡◌, IfOk, IsTrue};
+ghost use Rattle.pieces.specs.declared.layout.Form.TheVariants.{Copied};
+ghost use Rattle.pieces.specs.Inner.Copied.{IsSameLayout, IsSamePart, IsSameValue};
+
+use crate::layout::{Form, Layout, Piece, form_at};
+use crate::printf_layout::is_plain;
+use numerals::NoMemory;
+use row_format::RowField;
+use std::alloc::Global;
+use values::Kind;
+
+/// Whether the value at a place stands in the rows as it is printed in a form: the field there prints it so.
+fn stands_in_rows(form: Form, place: usize, fields: &[RowField], kinds: &[Kind]) -> bool
+    ensures { IsTrue result → IsSameValue fields.now kinds.now place form Copied }
+{
+    let Some(own) = form_at(kinds, place) else {
+        return false;
+    };
+    if own != form || place >= fields.len() {
+        return false;
+    }
+    is_plain(fields[place].field(), form)
+}
+
+/// The form of a value over the rows.
+fn form_over(form: Form, place: usize, fields: &[RowField], kinds: &[Kind]) -> Form
+    ensures { IsSameValue fields.now kinds.now place form result }
+{
+    if stands_in_rows(form, place, fields, kinds) {
+        Form::Copied
+    } else {
+        form
+    }
+}
+
+/// The piece over the rows.
+fn piece_over(
+    alloc: Global,
+    piece: &Piece,
+    fields: &[RowField],
+    kinds: &[Kind],
+) -> Result<Piece, NoMemory>
+    ensures { IfOk result (λ other. IsSamePart fields.now kinds.now piece.now other) }
+{
+    let Ok(before) = piece.before.clone() else {
+        return Err(NoMemory);
+    };
+    Ok(Piece {
+        before,
+        form: form_over(piece.form, piece.place, fields, kinds),
+        place: piece.place,
+    })
+}
+
+/// The layout over the rows of a format whose values are of these kinds.
+pub(crate) fn layout_over(
+    alloc: Global,
+    layout: Layout,
+    fields: &[RowField],
+    kinds: &[Kind],
+) -> Result<Layout, NoMemory>
+    ensures { IfOk result (λ other. IsSameLayout fields.now kinds.now layout other) }
+{
+    let mut pieces = Vec::new(alloc);
+    'parts: for piece in &layout.pieces {
+        if pieces.push(piece_over(alloc, piece, fields, kinds)?).is_err() {
+            return Err(NoMemory);
+        }
+    }
+    Ok(Layout {
+        pieces,
+        tail: layout.tail,
+    })
+}

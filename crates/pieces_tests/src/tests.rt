@@ -1,0 +1,93 @@
+// Each expected text is written out by hand.
+use columns::Columns;
+use pieces::Pieces;
+use printer::Dialect;
+use row_format::RowFormat;
+use sprintf::parser::parse_format_string;
+use std::alloc::Global;
+use std::test::Fail;
+use values::parse_kinds;
+
+// A dialect, kinds, a format, a template, a row, and the text; `none` where the template has no pieces.
+const ROWS: &str = "\
+    printf\tu64 u64\t%d-%u\t%u %d\t1-20\t1 20\n\
+    printf\tu64 u64\t%d-%u\t%u\t1-20\tnone\n\
+    printf\tu64 u64\t%d-%u\t%u %d %d\t1-20\tnone\n\
+    printf\tu64\t%d.\t100%% of %u{}\t7.\t100% of 7{}\n\
+    printf\tu32\t%08u.\t%d\t00000412.\t412\n\
+    printf\tu32\t%08x.\t%u\t0000beef.\t48879\n\
+    printf\ti64\t%+d.\t%d\t+7.\t7\n\
+    printf\ti64\t%+d.\t%+d\t+7.\tnone\n\
+    printf\ti64\t%d.\t<%d>\t-9223372036854775808.\t<-9223372036854775808>\n\
+    printf\ti8\t%x\t%d\tfe\t-2\n\
+    printf\tu8\t%d\t%3d\t7\tnone\n\
+    printf\tu8\t%d\t%x\t7\tnone\n\
+    printf\tu8\t%d\t%*d\t7\tnone\n\
+    printf\tword\t%s.\t[%s]\té.\t[é]\n\
+    printf\tword\t%s.\t%.1s\tab.\tnone\n\
+    printf\tword\t%s.\t%d\tab.\tnone\n\
+    printf\tu8\t%d\t%\t7\tnone\n\
+    strfmt\tword u32 word u64\t%s [%08u] %s: %llu bytes\t{2} {3} {0}\tweb [00000007] GET: 512 bytes\tGET 512 web\n\
+    strfmt\tu8 u8\t%d %d\t{1}{0}{1}\t1 2\t212\n\
+    strfmt\tu8\t%d\t{{{0}}} %d\t7\t{7} %d\n\
+    strfmt\tu8\t%d\tno value\t7\tno value\n\
+    strfmt\tu8\t%d\t{1}\t7\tnone\n\
+    strfmt\tu8\t%d\t{0:>3}\t7\tnone\n\
+    strfmt\tu8\t%d\t{n}\t7\tnone\n\
+    strfmt\tu8\t%d\t{00}\t7\tnone\n\
+    strfmt\tu8\t%d\t{0\t7\tnone\n\
+    formatx\tu32 i64 word\t%08x %+d %s\t{2} {0} {1}\t0000002a -3 w1\tw1 42 -3\n\
+    formatx\tu32 i64 word\t%08x %+d %s\t{} {} {}\t0000002a +3 w1\t42 3 w1\n\
+    formatx\tu8 u8\t%d %d\t{1}{}{}{1}\t1 2\t2122\n\
+    formatx\tu8\t%d\t{{{}}}\t7\t{7}\n\
+    formatx\tu8\t%d\t{0:03}\t7\tnone\n\
+    formatx\tu8\t%d\t{:?}\t7\tnone\n\
+    formatx\tu8\t%d\t{1}\t7\tnone\n\
+    formatx\tu8\t%d\t{n}\t7\tnone\n\
+    formatx\tu8\t%d\t{\t7\tnone\n\
+    formatx\tu16\t%o\t{0}{0}\t177777\t6553565535\n\
+";
+
+/// What the template prints of the row, behind a text that stands.
+fn printed(alloc: Global, line: &str) -> Result<String, Fail> {
+    let (dialect, rest) = line.split_once('\t').ok_or("no dialect")?;
+    let (kinds, rest) = rest.split_once('\t').ok_or("no kinds")?;
+    let (format, rest) = rest.split_once('\t').ok_or("no format")?;
+    let (template, row) = rest.split_once('\t').ok_or("no template")?;
+    let dialect = dialect_of(dialect).ok_or("dialect")?;
+    let kinds = parse_kinds(alloc, kinds).ok().ok_or("kinds")?;
+    let elements = parse_format_string(alloc, format).ok().ok_or("format")?;
+    let format = RowFormat::new(alloc, &elements).ok().ok_or("no memory")?;
+    let found = Columns::new(alloc, &format, &kinds);
+    let columns = found.ok().ok_or("no memory")?.ok_or("no columns")?;
+    let found = Pieces::new(alloc, dialect, template, format, &kinds);
+    let Some(pieces) = found.ok().ok_or("no memory")? else {
+        return Ok(String::from_str(alloc, "none")?);
+    };
+    let mut tokens = Vec::new(alloc);
+    if !columns.read(row, &mut tokens).ok().ok_or("no memory")? {
+        return Ok(String::from_str(alloc, "no row")?);
+    }
+    let mut text = String::from_str(alloc, "=")?;
+    pieces.write(row, &tokens, &mut text).ok().ok_or("no memory")?;
+    Ok(text)
+}
+
+fn dialect_of(word: &str) -> Option<Dialect> {
+    match word {
+        "printf" => Some(Dialect::Printf),
+        "strfmt" => Some(Dialect::Strfmt),
+        "formatx" => Some(Dialect::Formatx),
+        _ => None,
+    }
+}
+
+#[test]
+fn rows_are_printed(rt: HostRuntime) -> Result<(), Fail> {
+    for line in ROWS.lines() {
+        let (case, want) = line.rsplit_once('\t').ok_or("no text")?;
+        let text = printed(rt.alloc(), case)?;
+        assert_eq!(rt; text.strip_prefix('=').unwrap_or(text.as_str()), want, "{line}");
+    }
+    Ok(())
+}
