@@ -1,4 +1,4 @@
-use Rattle.std.proofs.Common.{◌≡◌, ◌∙◌, List, ℕ, map, sym, ap, subst, IfSome}
+use Rattle.std.proofs.Common.{◌∙◌, List, ℕ, map, sym, ap, subst, IfSome}
 use Rattle.values.specs.declared.word.Word.{Word}
 use Rattle.values.specs.Datum.{word_text}
 use Rattle.printer.specs.declared.dialect.Dialect.{Dialect}
