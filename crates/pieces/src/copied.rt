@@ -64,7 +64,10 @@ pub(crate) fn layout_over(
 {
     let mut pieces = Vec::new(alloc);
     'parts: for piece in &layout.pieces {
-        if pieces.push(piece_over(alloc, piece, fields, kinds)?).is_err() {
+        if pieces
+            .push(piece_over(alloc, piece, fields, kinds)?)
+            .is_err()
+        {
             return Err(NoMemory);
         }
     }

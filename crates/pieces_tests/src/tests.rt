@@ -1,12 +1,13 @@
 // Each expected text is written out by hand.
 use columns::Columns;
+use numerals::NoMemory;
 use pieces::Pieces;
 use printer::Dialect;
 use row_format::RowFormat;
 use sprintf::parser::parse_format_string;
 use std::alloc::Global;
 use std::test::Fail;
-use values::parse_kinds;
+use values::{Kind, parse_kinds};
 
 // A dialect, kinds, a format, a template, a row, and the text; `none` where the template has no pieces.
 const ROWS: &str = "\
@@ -48,8 +49,52 @@ const ROWS: &str = "\
     formatx\tu16\t%o\t{0}{0}\t177777\t6553565535\n\
 ";
 
-/// What the template prints of the row, behind a text that stands.
-fn printed(alloc: Global, line: &str) -> Result<String, Fail> {
+/// What becomes of a row.
+#[derive(Drop)]
+enum Printed {
+    Text(String),
+    NoColumns,
+    NoPieces,
+    NoRow,
+}
+
+impl Printed {
+    fn as_str(&self) -> &str {
+        match self {
+            Printed::Text(text) => text.as_str(),
+            Printed::NoColumns => "no columns",
+            Printed::NoPieces => "none",
+            Printed::NoRow => "no row",
+        }
+    }
+}
+
+/// Reads a row by its columns, and writes it by the template's pieces.
+fn print_row(
+    alloc: Global,
+    dialect: Dialect,
+    kinds: &[Kind],
+    format: RowFormat,
+    template: &str,
+    row: &str,
+) -> Result<Printed, NoMemory> {
+    let Some(columns) = Columns::new(alloc, &format, kinds)? else {
+        return Ok(Printed::NoColumns);
+    };
+    let Some(pieces) = Pieces::new(alloc, dialect, template, format, kinds)? else {
+        return Ok(Printed::NoPieces);
+    };
+    let mut tokens = Vec::new(alloc);
+    if !columns.read(row, &mut tokens)? {
+        return Ok(Printed::NoRow);
+    }
+    let mut text = String::new(alloc);
+    pieces.write(row, &tokens, &mut text)?;
+    Ok(Printed::Text(text))
+}
+
+/// What becomes of the row of a line of the table.
+fn read_case(alloc: Global, line: &str) -> Result<Printed, Fail> {
     let (dialect, rest) = line.split_once('\t').ok_or("no dialect")?;
     let (kinds, rest) = rest.split_once('\t').ok_or("no kinds")?;
     let (format, rest) = rest.split_once('\t').ok_or("no format")?;
@@ -58,19 +103,8 @@ fn printed(alloc: Global, line: &str) -> Result<String, Fail> {
     let kinds = parse_kinds(alloc, kinds).ok().ok_or("kinds")?;
     let elements = parse_format_string(alloc, format).ok().ok_or("format")?;
     let format = RowFormat::new(alloc, &elements).ok().ok_or("no memory")?;
-    let found = Columns::new(alloc, &format, &kinds);
-    let columns = found.ok().ok_or("no memory")?.ok_or("no columns")?;
-    let found = Pieces::new(alloc, dialect, template, format, &kinds);
-    let Some(pieces) = found.ok().ok_or("no memory")? else {
-        return Ok(String::from_str(alloc, "none")?);
-    };
-    let mut tokens = Vec::new(alloc);
-    if !columns.read(row, &mut tokens).ok().ok_or("no memory")? {
-        return Ok(String::from_str(alloc, "no row")?);
-    }
-    let mut text = String::from_str(alloc, "=")?;
-    pieces.write(row, &tokens, &mut text).ok().ok_or("no memory")?;
-    Ok(text)
+    let found = print_row(alloc, dialect, &kinds, format, template, row);
+    Ok(found.ok().ok_or("no memory")?)
 }
 
 fn dialect_of(word: &str) -> Option<Dialect> {
@@ -86,8 +120,7 @@ fn dialect_of(word: &str) -> Option<Dialect> {
 fn rows_are_printed(rt: HostRuntime) -> Result<(), Fail> {
     for line in ROWS.lines() {
         let (case, want) = line.rsplit_once('\t').ok_or("no text")?;
-        let text = printed(rt.alloc(), case)?;
-        assert_eq!(rt; text.strip_prefix('=').unwrap_or(text.as_str()), want, "{line}");
+        assert_eq!(rt; read_case(rt.alloc(), case)?.as_str(), want, "{line}");
     }
     Ok(())
 }

@@ -107,13 +107,13 @@ fast_rewritten columns one version source printing way row old new sound is writ
     let plannable : IsPlannable source.plan.format.columns source.plan.kinds = subst (λ (c : Columns). IsPlannable c.columns source.plan.kinds) (sym sound.columns) sound.plannable in
     let text : IsText source.plan.format = subst IsText is.format written.text in
     let is_row : IsPlanRow source.plan.format source.plan.kinds row written.values =
-        subst (λ (k : List Kind). IsPlanRow source.plan.format k row written.values) is.kinds (subst (λ (c : Columns). IsPlanRow c way.kinds row written.values) is.format written.is_row) in
+    subst (λ (k : List Kind). IsPlanRow source.plan.format k row written.values) is.kinds (subst (λ (c : Columns). IsPlanRow c way.kinds row written.values) is.format written.is_row) in
     let of_row : IsRowOf (layout_of version source printing) row written.values = record {
       is_row = row_of_plan columns source row written.values sound is_row;
       only = λ others other. one source.plan.format source.plan.kinds row others written.values text plannable (plan_row columns source row others sound other) is_row;
     } in
     let prints : Renders (layout_of version source printing) written.values (text_is written.line) =
-        subst (λ (k : List Kind). Prints printing k written.values (text_is written.line)) is.kinds (is.prints way.kinds written.values written.line written.prints) in
+    subst (λ (k : List Kind). Prints printing k written.values (text_is written.line)) is.kinds (is.prints way.kinds written.values written.line written.prints) in
     (written.line, (written.values, of_row, prints), written.grown)
 
 -- the same, where the way is one that may be missing

@@ -1,4 +1,4 @@
-use Rattle.std.proofs.Common.{◌≡◌, ◌<◌, length, refl, sym, subst, slice_get, Some, rules, arith}
+use Rattle.std.proofs.Common.{◌≡◌, ◌<◌, length, refl, subst, rules, arith}
 use Rattle.std.proofs.lemmas.Option.{slice_get_read}
 use Rattle.sprintf.specs.declared.parser.ConversionSpecifier.{ConversionSpecifier}
 use Rattle.pieces.specs.declared.layout.Form.{Form}
