@@ -8,11 +8,9 @@ use Rattle.columns.specs.Fields.{AreFieldsAt, IsFieldAt}
 use Rattle.pieces.specs.declared.layout.Form.{Form}
 use Rattle.pieces.specs.declared.layout.Form.TheVariants.{Copied}
 use Rattle.pieces.specs.Inner.Layout.{Part, part_text, parts_text, text_where}
-use Rattle.pieces.specs.Inner.Printf.{IsPlain}
-use Rattle.pieces.specs.Inner.Sound.{HasForm}
+use Rattle.pieces.specs.Inner.Printf.{HasFormUnder}
 use Rattle.pieces.specs.Inner.Copied.{AreSame, IsSamePart, IsSameValue}
 use Rattle.pieces.proofs.LayoutLemmas.{parts_text-step, parts_text-append}
-use Rattle.pieces.proofs.PrintfLemmas.{token_printed}
 
 some_is : {A : Type 0} (a b : A) → ◌≡◌ {A = Option A} (Some a) (Some b) → a ≡ b
 some_is a b e = cc
@@ -41,13 +39,13 @@ field_here (c ∷ columns) (k ∷ kinds) row (t ∷ tokens) (suc place) kind col
     let h = field_here columns kinds row tokens place kind column are.1 fields.1 at there in
     record { token = h.token; at = h.at; is = h.is; field = h.field }
 
--- a value that its field prints plainly stands in the row as it is printed
-pub stands : (columns : List Column) (kinds : List Kind) (place : ℕ) (form : Form) (column : Column) → HasForm kinds place form → slice_get columns place ≡ Some column → IsPlain form column.field → IsSameValue columns kinds place form Copied
-stands columns kinds place form column has there plain row tokens are fields =
+-- a value that its field prints in a form stands in the row as it is printed in that form
+pub stands : (columns : List Column) (kinds : List Kind) (place : ℕ) (form : Form) (column : Column) → HasFormUnder column.field kinds place form → slice_get columns place ≡ Some column → IsSameValue columns kinds place form Copied
+stands columns kinds place form column has there row tokens are fields =
     let h = field_here columns kinds row tokens place has.0 column are fields has.1 there in
     ap (λ (o : Option Token). text_where Copied row o) h.at
     ∙ h.field.text
-    ∙ ap text_or_none (token_printed has.0 form column.field row h.token has.2 plain h.is)
+    ∙ ap text_or_none (has.2.prints row h.token h.is)
     ∙ sym (ap (λ (o : Option Token). text_where form row o) h.at)
 
 -- the part of a value that is the same

@@ -4,4 +4,5 @@ pub mod Formatx
 pub mod Layout
 pub mod Printf
 pub mod Sound
+pub mod Source
 pub mod Strfmt

@@ -3,8 +3,8 @@ ghost use Rattle.std.specs.Prelude.{◌≡◌, IfOk, IsTrue};
 ghost use Rattle.pieces.specs.declared.layout.Form.TheVariants.{Copied};
 ghost use Rattle.pieces.specs.Inner.Copied.{IsSameLayout, IsSamePart, IsSameValue};
 
-use crate::layout::{Form, Layout, Piece, form_at};
-use crate::printf_layout::is_plain;
+use crate::layout::{Form, Layout, Piece};
+use crate::printf_layout::form_under;
 use numerals::NoMemory;
 use row_format::RowField;
 use std::alloc::Global;
@@ -14,13 +14,13 @@ use values::Kind;
 fn stands_in_rows(form: Form, place: usize, fields: &[RowField], kinds: &[Kind]) -> bool
     ensures { IsTrue result → IsSameValue fields.now kinds.now place form Copied }
 {
-    let Some(own) = form_at(kinds, place) else {
-        return false;
-    };
-    if own != form || place >= fields.len() {
+    if place >= fields.len() {
         return false;
     }
-    is_plain(fields[place].field(), form)
+    match form_under(fields[place].field(), kinds, place) {
+        Some(own) => own.is_same(&form),
+        None => false,
+    }
 }
 
 /// The form of a value over the rows.

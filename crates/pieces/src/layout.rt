@@ -1,12 +1,14 @@
 // Literal texts and values in turn, and the text that they make over a row.
-ghost use Rattle.std.specs.Prelude.{◌≡◌, ◌++◌, ◌<◌, false, IfSome, IsSome, OnErr, OnOk, length, option_copied, slice_get, string_bytes};
+ghost use Rattle.std.specs.Prelude.{◌≡◌, ◌++◌, ◌<◌, false, IfSome, IsSome, IsTrue, OnErr, OnOk, length, option_copied, slice_get, string_bytes};
 ghost use Rattle.numerals.specs.Numeral.{numeral};
 ghost use Rattle.formatx.specs.Values.{decimal_of};
 ghost use Rattle.pieces.specs.Inner.Layout.{AreTokensOfSome, Grows, IsEmpty, IsTokenOfSome, Starts, form_of, layout_text, part_text, text_where, token_text};
 ghost use Rattle.pieces.specs.Inner.Sound.{HasForm};
 
+use crate::source::{Source, append_printed, is_same_field};
 use itoa::Buffer;
 use numerals::{NoMemory, numeral_is_std};
+use sprintf::ConversionSpecifier;
 use std::alloc::{AllocError, Global};
 use std::marker::Model;
 use std::mem;
@@ -48,7 +50,7 @@ fn append_literal(text: &str, out: &mut String) -> Result<(), AllocError>
 }
 
 /// How a value of a row is printed.
-#[derive(Clone, Copy, PartialEq, Eq)]
+#[derive(Clone, Copy)]
 pub(crate) enum Form {
     /// A number without a sign, in decimal.
     Number,
@@ -56,6 +58,11 @@ pub(crate) enum Form {
     Signed,
     /// As it stands in the row.
     Copied,
+    /// As a field of printf prints what it takes from the token.
+    Field {
+        source: Source,
+        field: ConversionSpecifier,
+    },
 }
 
 impl Form {
@@ -71,28 +78,47 @@ impl Form {
         }
     }
 
+    /// Whether both forms are the same.
+    pub(crate) fn is_same(&self, other: &Form) -> bool
+        ensures { IsTrue result → self.now ≡ other.now }
+    {
+        match self {
+            Form::Number => matches!(other, Form::Number),
+            Form::Signed => matches!(other, Form::Signed),
+            Form::Copied => matches!(other, Form::Copied),
+            Form::Field { source, field } => match other {
+                Form::Field {
+                    source: other_source,
+                    field: other_field,
+                } => source == other_source && is_same_field(field, other_field),
+                _ => false,
+            },
+        }
+    }
+
     /// Appends the text of a token.
-    fn append(self, row: &str, token: &Token, out: &mut String) -> Result<(), AllocError>
+    fn append(&self, row: &str, token: &Token, out: &mut String) -> Result<(), AllocError>
         requires token { IsTokenOfSome row.now token.now }
-        ensures ok { OnOk result (string_bytes out.new ≡ string_bytes out.old ++ token_text self row.now token.now) }
+        ensures ok { OnOk result (string_bytes out.new ≡ string_bytes out.old ++ token_text self.now row.now token.now) }
         ensures unchanged { OnErr result (string_bytes out.new ≡ string_bytes out.old) }
     {
         match self {
             Form::Number => append_number(token.number, out),
             Form::Signed => append_signed(token.number.cast_signed(), out),
             Form::Copied => out.push_str(&row[token.start..token.end]),
+            Form::Field { source, field } => append_printed(&source.value(row, token), field, out),
         }
     }
 
     /// Appends the text of a token, if there is one.
     fn append_where(
-        self,
+        &self,
         row: &str,
         token: Option<&Token>,
         out: &mut String,
     ) -> Result<(), AllocError>
         requires token { IfSome (option_copied token) (IsTokenOfSome row.now) }
-        ensures ok { OnOk result (string_bytes out.new ≡ string_bytes out.old ++ text_where self row.now (option_copied token.entry)) }
+        ensures ok { OnOk result (string_bytes out.new ≡ string_bytes out.old ++ text_where self.now row.now (option_copied token.entry)) }
         ensures unchanged { OnErr result (string_bytes out.new ≡ string_bytes out.old) }
     {
         match token {

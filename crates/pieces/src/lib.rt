@@ -6,6 +6,7 @@ mod formatx_layout;
 mod layout;
 mod pieces;
 mod printf_layout;
+mod source;
 mod strfmt_layout;
 
 pub use pieces::Pieces;

@@ -72,8 +72,9 @@ fn lay_out_over(
 }
 
 impl Pieces {
-    /// The pieces of a template over rows of this format and values of these kinds; None where a field of it isn't plain, so that only a printer
-    /// can judge and print it. None is no refusal of the template.
+    /// The pieces of a template over rows of this format and values of these kinds; None where only a printer can judge and
+    /// print it: a field takes its width or precision from a value, or may refuse its value, or has options in strfmt or formatx.
+    /// None is no refusal of the template.
     pub fn new(
         alloc: Global,
         dialect: Dialect,

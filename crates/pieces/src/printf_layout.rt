@@ -1,12 +1,13 @@
 // Printf formats as layouts.
-ghost use Rattle.std.specs.Prelude.{◌∷◌, List, IfOk, IfSome, IsTrue};
+ghost use Rattle.std.specs.Prelude.{◌≡◌, ◌∷◌, List, IfOk, IfSome, IsTrue, slice_get, Some};
 ghost use Rattle.sprintf.specs.declared.parser.FormatElement.{FormatElement as ElementOf};
 ghost use Rattle.sprintf.specs.declared.parser.FormatElement.TheVariants.{Format};
 ghost use Rattle.printer.specs.declared.dialect.Dialect.TheVariants as Of;
-ghost use Rattle.pieces.specs.Inner.Printf.{IsPlain, IsPlainNumber, IsPlainWord, IsWhole, Moves};
+ghost use Rattle.pieces.specs.Inner.Printf.{HasFormUnder, HasNumbers, IsFormUnder, IsPlain, IsPlainNumber, IsPlainWord, IsWhole, Moves};
 ghost use Rattle.pieces.specs.Inner.Sound.{StandsFor};
 
-use crate::layout::{Form, Layout, form_at};
+use crate::layout::{Form, Layout};
+use crate::source::Source;
 use numerals::NoMemory;
 use sprintf::parser::{FormatElement, parse_format_string};
 use sprintf::{ConversionSpecifier, ConversionType, NumericParam, PrintfError};
@@ -46,17 +47,69 @@ fn is_plain_word(field: &ConversionSpecifier) -> bool
 }
 
 /// Whether the field prints values of the form plainly.
-pub(crate) fn is_plain(field: &ConversionSpecifier, form: Form) -> bool
+fn is_plain(field: &ConversionSpecifier, form: Form) -> bool
     ensures { IsTrue result → IsPlain form field.now }
 {
     match form {
         Form::Number => is_plain_number(field),
         Form::Signed => is_plain_number(field),
         Form::Copied => is_plain_word(field),
+        Form::Field { .. } => false,
     }
 }
 
-/// Takes a field's value in, and gives the place of the next one; None where the field isn't plain.
+/// Whether the field's width and precision are numbers, so that it takes one value.
+fn has_numbers(field: &ConversionSpecifier) -> bool
+    ensures { IsTrue result → HasNumbers field.now }
+{
+    let NumericParam::Literal(_) = field.width else {
+        return false;
+    };
+    let NumericParam::Literal(_) = field.precision else {
+        return false;
+    };
+    true
+}
+
+/// The plain form of values of the kind, if the field prints them plainly.
+fn plain_form(field: &ConversionSpecifier, kind: Kind) -> Option<Form>
+    ensures { IfSome result (IsFormUnder field.now kind) }
+{
+    let form = Form::of(kind)?;
+    if is_plain(field, form) {
+        Some(form)
+    } else {
+        None
+    }
+}
+
+/// The form in which the field prints values of the kind with its width and its flags; None where it may refuse them.
+fn field_form(field: &ConversionSpecifier, kind: Kind) -> Option<Form>
+    ensures { IfSome result (IsFormUnder field.now kind) }
+{
+    let source = Source::of(field.conversion_type, kind)?;
+    if has_numbers(field) {
+        Some(Form::Field {
+            source,
+            field: *field,
+        })
+    } else {
+        None
+    }
+}
+
+/// The form in which the field prints the value at a place; None where it may refuse it, or takes more than that value.
+pub(crate) fn form_under(field: &ConversionSpecifier, kinds: &[Kind], place: usize) -> Option<Form>
+    ensures { IfSome result (HasFormUnder field.now kinds.now place) }
+{
+    let kind = *kinds.get(place)?;
+    match plain_form(field, kind) {
+        Some(form) => Some(form),
+        None => field_form(field, kind),
+    }
+}
+
+/// Takes a field's value in, and gives the place of the next one; None where the field has no form.
 fn push_value(
     alloc: Global,
     layout: &mut Layout,
@@ -66,17 +119,14 @@ fn push_value(
 ) -> Result<Option<usize>, NoMemory>
     ensures { IfOk result (λ found. IfSome found (λ next. (rest : List ElementOf) → Moves kinds.now layout.old (Format field.now ∷ rest) place layout.new rest next)) }
 {
-    let Some(form) = form_at(kinds, place) else {
+    let Some(form) = form_under(field, kinds, place) else {
         return Ok(None);
     };
-    if !is_plain(field, form) {
-        return Ok(None);
-    }
     layout.push_value(alloc, form, place)?;
     Ok(Some(place + 1))
 }
 
-/// Takes an element in, and gives the place of the next value; None where it is a field that isn't plain.
+/// Takes an element in, and gives the place of the next value; None where it is a field without a form.
 fn push_element(
     alloc: Global,
     layout: &mut Layout,
@@ -101,7 +151,7 @@ fn push_element(
     }
 }
 
-/// The layout of elements, where each field is plain and has its value.
+/// The layout of elements, where each field has a form and its value.
 fn lay_out_elements(
     alloc: Global,
     elements: &[FormatElement<'_>],
@@ -126,7 +176,7 @@ fn lay_out_elements(
     }
 }
 
-/// The layout of a printf format, where each field is plain and has its value.
+/// The layout of a printf format, where each field has a form and its value.
 pub(crate) fn lay_out(
     alloc: Global,
     template: &str,

@@ -18,14 +18,36 @@ const ROWS: &str = "\
     printf\tu32\t%08u.\t%d\t00000412.\t412\n\
     printf\tu32\t%08x.\t%u\t0000beef.\t48879\n\
     printf\ti64\t%+d.\t%d\t+7.\t7\n\
-    printf\ti64\t%+d.\t%+d\t+7.\tnone\n\
+    printf\ti64\t%+d.\t%+d\t+7.\t+7\n\
     printf\ti64\t%d.\t<%d>\t-9223372036854775808.\t<-9223372036854775808>\n\
     printf\ti8\t%x\t%d\tfe\t-2\n\
-    printf\tu8\t%d\t%3d\t7\tnone\n\
-    printf\tu8\t%d\t%x\t7\tnone\n\
+    printf\tu32 word u32 i32\t%d %s %d %d\t%5d|%-8s|%08x|%+d\t42 web 48879 7\t   42|web     |0000beef|+7\n\
+    printf\tu32\t%08x\t%08x\t0000beef\t0000beef\n\
+    printf\tu32\t%08x\t%8x\t0000beef\t    beef\n\
+    printf\tu8\t%d\t%3d\t7\t  7\n\
+    printf\tu8\t%d\t%#o\t200\t0310\n\
+    printf\tu16\t%d\t%o\t8\t10\n\
+    printf\tu16\t%d\t%X\t48879\tBEEF\n\
+    printf\tu64\t%d\t%#x\t18446744073709551615\t0xffffffffffffffff\n\
+    printf\tusize\t%d\t%2d\t12345\t12345\n\
+    printf\ti8\t%d\t%x\t-2\tfe\n\
+    printf\ti8\t%d\t%x\t127\t7f\n\
+    printf\ti16\t%d\t%x\t-2\tfffe\n\
+    printf\ti32\t%d\t%X\t-2\tFFFFFFFE\n\
+    printf\ti64\t%d\t%20x\t-2\t    fffffffffffffffe\n\
+    printf\tisize\t%d\t%o\t-1\t1777777777777777777777\n\
+    printf\ti16\t%d\t%-5d|\t-7\t-7   |\n\
+    printf\ti16\t%d\t%05d\t-7\t-0007\n\
+    printf\ti16\t%d\t% d\t7\t 7\n\
     printf\tu8\t%d\t%*d\t7\tnone\n\
+    printf\tu8\t%d\t%.*d\t7\tnone\n\
+    printf\tu8\t%d\t%c\t65\tnone\n\
+    printf\tu8\t%d\t%s\t65\tnone\n\
     printf\tword\t%s.\t[%s]\té.\t[é]\n\
-    printf\tword\t%s.\t%.1s\tab.\tnone\n\
+    printf\tword\t%s.\t%.3s|\tbytes.\tbyt|\n\
+    printf\tword\t%s.\t%.2s|\taé.\ta|\n\
+    printf\tword\t%s.\t%2s|\tword.\tword|\n\
+    printf\tword\t%s.\t%x\tab.\tnone\n\
     printf\tword\t%s.\t%d\tab.\tnone\n\
     printf\tu8\t%d\t%\t7\tnone\n\
     strfmt\tword u32 word u64\t%s [%08u] %s: %llu bytes\t{2} {3} {0}\tweb [00000007] GET: 512 bytes\tGET 512 web\n\

@@ -1,19 +1,19 @@
 -- A printf format, element by element.
-use Rattle.std.specs.Prelude.{◌≡◌, ℕ, List, drop, false, ℤ, pos, Result, Ok}
+use Rattle.std.specs.Prelude.{◌≡◌, ℕ, List, ◌∷◌, drop, false, ℤ, pos, slice_get, Some, Result, Ok}
 use Rattle.sprintf.specs.declared.PrintfError.{PrintfError}
 use Rattle.sprintf.specs.declared.parser.ConversionSpecifier.{ConversionSpecifier}
 use Rattle.sprintf.specs.declared.parser.ConversionType.TheVariants.{DecInt, String}
 use Rattle.sprintf.specs.declared.parser.FormatElement.{FormatElement}
 use Rattle.sprintf.specs.declared.parser.NumericParam.TheVariants.{Literal}
 use Rattle.sprintf.specs.Meaning.{Meaning}
-use Rattle.sprintf.specs.Printed.{onto, printed}
+use Rattle.sprintf.specs.Printed.{field_text, onto, printed, wanted}
 use Rattle.values.specs.declared.kind.Kind.{Kind}
 use Rattle.values.specs.Datum.{each_of, printf_meaning}
 use Rattle.tokens.specs.declared.Token.{Token}
-use Rattle.tokens.specs.Tokens.{AreTokens, data_of}
+use Rattle.tokens.specs.Tokens.{AreTokens, IsToken, data_of, datum_at}
 use Rattle.pieces.specs.declared.layout.Form.{Form}
-use Rattle.pieces.specs.declared.layout.Form.TheVariants.{Number, Signed, Copied}
-use Rattle.pieces.specs.Inner.Layout.{Parts, layout_text}
+use Rattle.pieces.specs.declared.layout.Form.TheVariants.{Number, Signed, Copied, Field}
+use Rattle.pieces.specs.Inner.Layout.{Parts, layout_text, token_text}
 
 -- The field prints numbers plainly.
 pub record IsPlainNumber (f : ConversionSpecifier) : Type 0 where
@@ -34,6 +34,29 @@ abbrev pub IsPlain : Form → ConversionSpecifier → Type 0
 IsPlain Number f = IsPlainNumber f
 IsPlain Signed f = IsPlainNumber f
 IsPlain Copied f = IsPlainWord f
+IsPlain (Field source g) f = ⊥
+
+-- The width and the precision are numbers.
+pub record HasNumbers (f : ConversionSpecifier) : Type 0 where
+  pub width : (z : ℤ) × (f.width ≡ Literal z)
+  pub precision : (z : ℤ) × (f.precision ≡ Literal z)
+
+-- The field takes one value, and its text is the value's.
+abbrev pub TakesOne : ConversionSpecifier → Type 0
+TakesOne f = (v : Meaning) (values : List Meaning) → (field_text f (v ∷ values) ≡ v.text f) × (wanted f ≡ 1)
+
+-- What the field prints of a token of the kind is the token's text in the form.
+abbrev pub PrintsTokens : ConversionSpecifier → Kind → Form → Type 0
+PrintsTokens f kind form = (row : List ℕ) (token : Token) → IsToken kind row token → (printf_meaning kind (datum_at kind row token)).text f ≡ Ok (token_text form row token)
+
+-- The field prints values of the kind in the form.
+pub record IsFormUnder (f : ConversionSpecifier) (kind : Kind) (form : Form) : Type 0 where
+  pub takes : TakesOne f
+  pub prints : PrintsTokens f kind form
+
+-- The field prints the value at the place in the form.
+abbrev pub HasFormUnder : ConversionSpecifier → List Kind → ℕ → Form → Type 0
+HasFormUnder f kinds place form = (kind : Kind) × (slice_get kinds place ≡ Some kind) × IsFormUnder f kind form
 
 -- The values of a row, as a printf format sees them.
 abbrev pub meanings : List Kind → List ℕ → List Token → List Meaning
