@@ -74,6 +74,8 @@ fn read_values(
 }
 
 /// Rewrites a row by the plan of its format and the template's printer; `again` is a text in which it is printed again.
+/// It stands apart, so that it doesn't slow the fast way.
+#[cold]
 fn rewrite_by_plan(
     alloc: Global,
     source: &Source<'_>,
@@ -137,6 +139,7 @@ impl Room {
 
 /// Puts the line that the row is rewritten as, and a line feed, at the end of `out`. The row stands on the line of this
 /// number. Where the fast way doesn't rewrite it, the plan and the printer judge it.
+#[inline(never)]
 pub(crate) fn rewrite_row(
     alloc: Global,
     source: &Source<'_>,
