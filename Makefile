@@ -4,7 +4,9 @@
 # make test         the gate: every proof, must-fail edit, test, program and example; make check is the same
 # make conformance  replays what the Rust crates answered; FILE=path: other cases
 # make faults       each allocation, read and write refused in turn, on every example
-# make install      copies the program and its manual page below PREFIX
+# make pages        compares the manual page with its copy, the version and the messages, and runs the commands that pages show
+# make deb          makes a Debian package below build, of the program, or of another one: PROGRAM=path
+# make install      copies the program, its manual page and the completion for bash below PREFIX
 # make uninstall    removes them
 # make clean        removes what was built, and what the prover kept
 # make help         prints these lines
@@ -12,8 +14,9 @@ RT ?= rt
 PREFIX ?= /usr/local
 FILE ?= crates/conformance/stdin
 NAME ?=
+PROGRAM ?= build/reformat
 
-.PHONY: all build/reformat build/conformance demo examples test check conformance faults install uninstall clean help
+.PHONY: all build/reformat build/conformance demo examples test check conformance faults pages deb install uninstall clean help
 
 all: build/reformat
 
@@ -46,13 +49,20 @@ conformance: build/conformance
 faults: build/reformat
 	tools/refuse-calls build/reformat $(NAME)
 
-install: build/reformat
-	install -d $(DESTDIR)$(PREFIX)/bin $(DESTDIR)$(PREFIX)/share/man/man1
-	install -m 755 build/reformat $(DESTDIR)$(PREFIX)/bin/reformat
-	install -m 644 docs/reformat.1 $(DESTDIR)$(PREFIX)/share/man/man1/reformat.1
+pages: $(PROGRAM)
+	tools/manual $(PROGRAM)
+
+deb: $(PROGRAM)
+	tools/deb $(PROGRAM) build
+
+install: $(PROGRAM)
+	install -D -m 755 $(PROGRAM) $(DESTDIR)$(PREFIX)/bin/reformat
+	install -D -m 644 docs/reformat.1 $(DESTDIR)$(PREFIX)/share/man/man1/reformat.1
+	install -D -m 644 completions/reformat.bash $(DESTDIR)$(PREFIX)/share/bash-completion/completions/reformat
 
 uninstall:
 	rm -f $(DESTDIR)$(PREFIX)/bin/reformat $(DESTDIR)$(PREFIX)/share/man/man1/reformat.1
+	rm -f $(DESTDIR)$(PREFIX)/share/bash-completion/completions/reformat
 
 clean:
 	rm -rf build crates/*/out
