@@ -3,7 +3,9 @@
 # make examples     runs every example and compares it with what is expected; NAME=counters: that one alone
 # make test         the gate: every proof, must-fail edit, test, program and example; make check is the same
 # make conformance  replays what the Rust crates answered; FILE=path: other cases
-# make faults       each allocation, read and write refused in turn, on every example
+# make faults       each allocation, read and write refused in turn, on every example and on calls of the libraries
+# make hostile      inputs of hostile sizes: status, output, time and memory of each; MEMORY=1000: those that need fewer MiB
+# make random       random cases against a small model, for a minute; CASES=1000000: so many, however long they take
 # make pages        compares the manual page with its copy, the version and the messages, and runs the commands that pages show
 # make deb          makes a Debian package below build, of the program, or of another one: PROGRAM=path
 # make install      copies the program, its manual page and the completion for bash below PREFIX
@@ -15,8 +17,10 @@ PREFIX ?= /usr/local
 FILE ?= crates/conformance/stdin
 NAME ?=
 PROGRAM ?= build/reformat
+MEMORY ?= 8500
+CASES ?=
 
-.PHONY: all build/reformat build/conformance demo examples test check conformance faults pages deb install uninstall clean help
+.PHONY: all build/reformat build/conformance build/library_calls demo examples test check conformance faults hostile random pages deb install uninstall clean help
 
 all: build/reformat
 
@@ -33,6 +37,12 @@ build/conformance:
 	cmp crates/conformance/stdout build/conformance.stdout
 	cp crates/conformance/out/conformance build/conformance
 
+build/library_calls:
+	@mkdir -p build
+	cd crates/library_calls && $(RT) run >../../build/library_calls.stdout
+	cmp crates/library_calls/stdout build/library_calls.stdout
+	cp crates/library_calls/out/library_calls build/library_calls
+
 demo: build/reformat
 	@echo '--- examples/access_sentence/input: six header lines, then the rows'; cat examples/access_sentence/input
 	@echo '--- build/reformat rewrite <examples/access_sentence/input'; build/reformat rewrite <examples/access_sentence/input
@@ -46,8 +56,15 @@ test check:
 conformance: build/conformance
 	build/conformance <$(FILE)
 
-faults: build/reformat
+faults: build/reformat $(if $(NAME),,build/library_calls)
 	tools/refuse-calls build/reformat $(NAME)
+	$(if $(NAME),,tools/refuse-calls build/library_calls crates/library_calls)
+
+hostile: build/reformat
+	tools/hostile build/reformat --memory $(MEMORY)
+
+random: build/reformat
+	tools/random-cases build/reformat $(if $(CASES),--cases $(CASES) --seconds 86400)
 
 pages: $(PROGRAM)
 	tools/manual $(PROGRAM)

@@ -4,11 +4,14 @@ import dataclasses
 
 from random_cases.printf import GREATEST_I32, KINDS, NUMBERS, Field, TooWide
 from random_cases.printf import doubled, fits, format_of, greatest_length, refusal_of, row_of, stop_of
-from random_cases.templates import DIALECTS, Hole
+from random_cases.templates import DIALECTS, Hole, are_names
 
 LITERALS = [*",;:=|-+. x0a7fX'\"\\{}$é€\U00010000\t\r\v\x01\x7f\u00a0", "--", "{}", "}{", "{d}", " = ", "0x", "0X", ", ", "a=", "{{"]
 LETTERS = "ab019fxX-+.,:=|{}[]%'\"\\/é€\U00010000\U0010ffff\x00\x01\x0b\x0c\x1f\x7f\x85\u00a0\u07ff\u0800\u2028\ud7ff\ue000\ufeff\u0301"
 WIDTHS = ["", "", "", *map(str, range(1, 26)), "40", "70", "300"]
+NAMES = ["id", "Id", "name", "_", "__", "_0", "x", "X", "b", "e2", "p", "o", "u8", "word", "a" * 70]
+LETTERS_OF_NAMES = frozenset("_abcdefghijklmnopqrstuvwxyzABCDEFGHIJKLMNOPQRSTUVWXYZ")
+BAD_NAMES = ["1x", "na-me", "\u00e9", "a\u0301", "$", "0", "a.b", "{id}", "id,"]
 LENGTHS = ["", "", "", "", "h", "hh", "l", "ll", "q", "L", "j", "z", "Z", "t"]
 
 
@@ -74,12 +77,27 @@ def changed_text(chance, text, letters):
     return text
 
 
-def some_hole(chance, dialect, count):
+def some_names(chance, count):
+    """Names for so many fields, at times names that are refused."""
+    names = [*NAMES, *(f"n{k}" for k in range(count))]
+    names = chance.sample(names, count) if chance.random() < 0.9 else names[-count:] if count else []
+    if chance.random() < 0.04:
+        at = chance.randint(0, count)
+        names[at : at + chance.choice([0, 1])] = [chance.choice([*BAD_NAMES, *names[:2], "id"])]
+    return names
+
+
+def some_argument(chance, count, names):
+    """What a place in a template prints, mostly a field of the row."""
+    if chance.random() < 0.05:
+        return chance.choice(["", "", "01", "00", str(count), "name", "Name", "18446744073709551615"])
+    return chance.choice(names) if names and chance.random() < 0.5 else str(chance.randrange(max(1, count)))
+
+
+def some_hole(chance, dialect, count, names):
     """A place in a template in braces, mostly one that prints."""
     wild = chance.random() < 0.3
-    it = {"argument": str(chance.randrange(max(1, count)))}
-    if chance.random() < 0.05:
-        it["argument"] = chance.choice(["", "", "01", "00", str(count), "name", "18446744073709551615"])
+    it = {"argument": some_argument(chance, count, names)}
     if chance.random() < 0.5:
         it["align"] = chance.choice("<^>" + "=" * (dialect == "strfmt"))
         it["fill"] = chance.choice(["", " ", "*", "0", "é", "<", "\U00010000", "+", ":"])
@@ -92,20 +110,20 @@ def some_hole(chance, dialect, count):
     if wild and chance.random() < 0.1:
         it["type"] = chance.choice([*"eEfF%kq"] if dialect == "strfmt" else [*"oxXbeEp"])
     if wild and dialect == "formatx" and chance.random() < 0.2:
-        it[chance.choice(["width", "precision"])] = chance.choice([f"{chance.randint(0, count)}$", "w$"])
+        it[chance.choice(["width", "precision"])] = chance.choice([f"{chance.randint(0, count)}$", "w$", *(f"{name}$" for name in names)])
         it["precision"] = chance.choice([it["precision"], "*"])
-        it["zero"] = it["zero"] if it["width"] != "w$" else ""
+        it["zero"] = it["zero"] if it["width"][:1] not in LETTERS_OF_NAMES or chance.random() < 0.1 else ""
     return Hole(**it)
 
 
-def some_pieces(chance, dialect, kinds, items):
+def some_pieces(chance, dialect, kinds, items, names=()):
     """A template: literal texts, and holes in braces or items of a printf format."""
     if dialect == "printf":
         own = items if chance.random() < 0.3 else some_items(chance, kinds)
         return own if chance.random() < 0.9 else some_items(chance, some_kinds(chance))
     pieces = []
     for _ in range(chance.choice([0, 1, 2, 3, 4, 8])):
-        pieces.append(some_hole(chance, dialect, len(kinds)) if chance.random() < 0.7 else doubled(chance.choice(LITERALS)))
+        pieces.append(some_hole(chance, dialect, len(kinds), names) if chance.random() < 0.7 else doubled(chance.choice(LITERALS)))
     return pieces
 
 
@@ -114,9 +132,10 @@ def some_pieces(chance, dialect, kinds, items):
 
 @dataclasses.dataclass(frozen=True)
 class Case:
-    """A header with rows. `changed` is lines that may be rows, `behind` what follows line 2 where nothing judges it, and `seed`
-    decides places and sizes."""
+    """A header with rows. `names` is those of version 2, and None in version 1; `changed` is lines that may be rows, `behind`
+    what follows the format where nothing judges it, and `seed` decides places and sizes."""
 
+    names: tuple
     kinds: tuple
     items: tuple
     values: tuple
@@ -130,17 +149,36 @@ class Case:
     def form(self):
         return format_of("".join(self.items))
 
+    @property
+    def format_line(self):
+        return 2 if self.names is None else 4
+
+    @property
+    def first_row(self):
+        """The number of the line after the headers."""
+        return self.format_line + 3
+
+    def up_to_format(self):
+        kinds, form = " ".join(self.kinds), "".join(self.items)
+        return [kinds, form] if self.names is None else ["#2", kinds, " ".join(self.names), form]
+
     def front(self):
-        return f"{' '.join(self.kinds)}\n{''.join(self.items)}\n".encode() + self.behind
+        return "".join(line + "\n" for line in self.up_to_format()).encode() + self.behind
 
     def headers(self, dialect="printf", template=None):
-        lines = [" ".join(self.kinds), "".join(self.items), dialect, "".join(self.items) if template is None else template]
+        lines = [*self.up_to_format(), dialect, "".join(self.items) if template is None else template]
         return "".join(line + "\n" for line in lines).encode()
 
+    def front_fault(self, plans=True):
+        """The message of the first line up to the format that is refused, or None; without `plans` the format need not read back."""
+        if self.names is not None and not are_names(self.names, len(self.kinds)):
+            return "line 3: bad header"
+        why = "not a printf format" if self.form is None else refusal_of(self.form, self.kinds) if plans else None
+        return why and f"line {self.format_line}: {why}"
+
     def is_readable(self):
-        form = self.form
-        return form is not None and refusal_of(form, self.kinds) is None and all(
-            len(it) == len(self.kinds) and all(map(fits, form.fields, self.kinds, it)) for it in self.values)
+        return self.front_fault() is None and all(
+            len(it) == len(self.kinds) and all(map(fits, self.form.fields, self.kinds, it)) for it in self.values)
 
     def rows(self):
         """The rows, or None where the format can't be read back or is too wide to be printed."""
@@ -150,6 +188,8 @@ class Case:
             return None
 
     def simpler(self):
+        if self.names is not None:
+            yield dataclasses.replace(self, names=None)
         yield from without_chunks(self, "values")
         yield from without_chunks(self, "changed")
         yield from without_chunks(self, "pieces")
@@ -175,7 +215,8 @@ def without_a_field(case):
     for k in range(min(len(at), len(case.kinds))):
         values = tuple(it[:k] + it[k + 1 :] for it in case.values)
         items = case.items[: at[k]] + case.items[at[k] + 1 :]
-        yield dataclasses.replace(case, kinds=case.kinds[:k] + case.kinds[k + 1 :], items=items, values=values)
+        names = None if case.names is None else case.names[:k] + case.names[k + 1 :]
+        yield dataclasses.replace(case, names=names, kinds=case.kinds[:k] + case.kinds[k + 1 :], items=items, values=values)
 
 
 def replaced(whole, at, part):
@@ -212,9 +253,10 @@ def some_case(chance, rows):
         items = [changed_text(chance, "".join(items), "%dxsc*.0-+# hlqy9")]
     if chance.random() < 0.02:
         kinds = kinds[1:] if chance.random() < 0.5 else kinds + ["u8"]
-    dialect = chance.choice(DIALECTS)
-    pieces, behind = some_pieces(chance, dialect, kinds, items), chance.choice([b"", b"\xff\n\0", b"u8", b"\n" * 5000])
-    case = Case(tuple(kinds), tuple(items), (), (), dialect, tuple(pieces), behind, chance.getrandbits(32))
+    dialect, names = chance.choice(DIALECTS), tuple(some_names(chance, len(kinds))) if chance.random() < 0.45 else None
+    pieces = some_pieces(chance, dialect, kinds, items, names or ())
+    behind = chance.choice([b"", b"\xff\n\0", b"u8", b"\n" * 5000])
+    case = Case(names, tuple(kinds), tuple(items), (), (), dialect, tuple(pieces), behind, chance.getrandbits(32))
     if not case.is_readable():
         return case
     values = tuple(tuple(map(lambda *it: some_value(chance, *it), case.form.fields, kinds)) for _ in range(rows))
@@ -240,7 +282,7 @@ def some_input(chance):
     data = case.headers(case.dialect, template) + "".join(it + "\n" for it in case.rows() or case.changed).encode()
     for _ in range(chance.choice([0, 1, 1, 2, 3])):
         data = changed_bytes(chance, data)
-    words = chance.choice([["rewrite"]] * 6 + [["plan"], ["scan", some_scan(chance)]])
+    words = chance.choice([["rewrite"]] * 6 + [["plan"], ["translate", chance.choice(["strfmt", "formatx"])], ["scan", some_scan(chance)]])
     return Input(tuple(words), data)
 
 
@@ -261,5 +303,5 @@ def changed_bytes(chance, data):
         lambda: data.replace(b"\n", b"\r\n"),
         lambda: data[: max(0, len(data) - 1)],
         lambda: data[:at] + some * chance.choice([4090, 4096, 5000, 20000]) + data[at:],
-        lambda: b"\n".join(lines[:k] + [chance.choice([b"", b"u8", b"printf x", b" formatx ", b"#2"])] + lines[k + 1 :]),
+        lambda: b"\n".join(lines[:k] + [chance.choice([b"", b"u8", b"printf x", b" formatx ", b"#2", b"\t#2 ", b"id id", b"_ a1"])] + lines[k + 1 :]),
     ])()

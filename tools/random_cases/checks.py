@@ -4,7 +4,7 @@ import random
 import re
 from typing import NamedTuple
 
-from random_cases.printf import Fault, TooWide, elements_of, format_of, is_row, planned, refusal_of, value_of
+from random_cases.printf import Fault, TooWide, elements_of, format_of, is_row, planned, value_of
 from random_cases.templates import HOLE_TEXT, Hole, is_template, printf_text, translated
 from random_cases.running import Answer, refused
 
@@ -22,16 +22,11 @@ class Finding(NamedTuple):
 
 
 def check_plan(program, case):
-    """A format is planned, or refused for the first of its faults; what follows line 2 isn't judged."""
+    """A format is planned, or a line up to it refused for the first of its faults; what follows it isn't judged."""
     program.count("headers", 1)
-    yield from unlike("plan", program, ("plan",), case.front(), plan_answer(case.form, case.kinds))
-
-
-def plan_answer(form, kinds):
-    if form is None:
-        return refused("line 2: not a printf format")
-    why = refusal_of(form, kinds)
-    return refused("line 2: " + why) if why else Answer(0, planned(form, kinds).encode() + b"\n", b"")
+    message = case.front_fault()
+    wanted = refused(message) if message else Answer(0, planned(case.form, case.kinds).encode() + b"\n", b"")
+    yield from unlike("plan", program, ("plan",), case.front(), wanted)
 
 
 def unlike(rule, program, words, data, wanted):
@@ -48,7 +43,7 @@ def check_rows(program, case):
     """Rows are printed by their own format as they were; a row that is shorter than a width is refused."""
     rows = case.rows()
     if rows is None and case.is_readable():
-        yield from unlike("a short row", program, ("rewrite",), case.headers() + b"7\n", refused("line 5: not a row"))
+        yield from unlike("a short row", program, ("rewrite",), case.headers() + b"7\n", refused(f"line {case.first_row}: not a row"))
     elif rows:
         program.count("rows", len(rows))
         yield from unlike("rows by their own format", program, ("rewrite",), case.headers() + joined(rows), Answer(0, joined(rows), b""))
@@ -82,7 +77,7 @@ def hole_text(case, values, state, piece):
 def template_text(case, values):
     if case.dialect == "printf":
         return printf_text(format_of("".join(case.pieces)), case.kinds, values)
-    state = {}
+    state = {"names": case.names or ()}
     return "".join(hole_text(case, values, state, it) for it in case.pieces)
 
 
@@ -91,12 +86,12 @@ def template_answer(case):
     template, texts = "".join(map(str, case.pieces)), []
     is_well = is_template(case.dialect, template)
     if not is_well:
-        return None if is_well is None else refused(f"line 4: not a {case.dialect} template")
+        return None if is_well is None else refused(f"line {case.first_row - 1}: not a {case.dialect} template")
     try:
         for values in case.values:
             texts.append(template_text(case, values))
     except Fault as fault:
-        return refused(f"line {len(texts) + 5}: template fault: {fault}", joined(texts))
+        return refused(f"line {len(texts) + case.first_row}: template fault: {fault}", joined(texts))
     except TooWide:
         return None
     return Answer(0, joined(texts), b"")
@@ -123,7 +118,7 @@ def check_cut(program, case):
     cut = random.Random(case.seed).randint(0, len(rows))
     whole, first, second = (program.run(("rewrite",), by_template(case, it)) for it in (rows, rows[:cut], rows[cut:]))
     program.count("rows", len(rows))
-    if whole.errors.startswith(b"line 4"):
+    if whole.errors.startswith(b"line %d:" % (case.first_row - 1)):
         wanted, got = (whole, whole), (first, second)
     elif first.status:
         wanted, got = whole, first
@@ -154,7 +149,7 @@ def check_changed(program, case):
     before = rows[: random.Random(case.seed).randint(0, 3)]
     for line in others[: REFUSALS_A_CASE]:
         program.count("refused rows", 1)
-        data, wanted = case.headers() + joined([*before, line, *rows[:1]]), refused(f"line {len(before) + 5}: not a row", joined(before))
+        data, wanted = case.headers() + joined([*before, line, *rows[:1]]), refused(f"line {len(before) + case.first_row}: not a row", joined(before))
         yield from unlike("lines whose tokens don't print to them", program, ("rewrite",), data, wanted)
 
 
@@ -174,10 +169,10 @@ def check_pieces(program, case):
 
 def check_translated(program, case):
     """A translation is the table's, and prints ASCII rows as they are."""
-    rows, elements = case.rows(), elements_of("".join(case.items))
+    rows, message = case.rows(), case.front_fault(plans=False)
     for target in ("strfmt", "formatx") if program.can_translate else ():
-        wanted = elements if elements is None else translated(elements, case.kinds, target)
-        answer = refused("line 2: not a printf format" if wanted is None else f"line 2: element {wanted}: no translation")
+        wanted = None if message else translated(elements_of("".join(case.items)), case.kinds, target)
+        answer = refused(message or f"line {case.format_line}: element {wanted}: no translation")
         if isinstance(wanted, str):
             answer = Answer(0, wanted.encode() + b"\n", b"")
         program.count("headers", 1)

@@ -2,10 +2,10 @@
 
 import re
 
-from random_cases.checks import Finding, plan_answer, unlike
-from random_cases.printf import KINDS, SPACES, format_of, refusal_of
+from random_cases.checks import Finding, unlike
+from random_cases.printf import KINDS, SPACES, elements_of, format_of, planned, refusal_of
 from random_cases.running import USAGE, Answer, refused
-from random_cases.templates import DIALECTS, is_template
+from random_cases.templates import DIALECTS, are_names, is_template, translated
 
 FAULTS = {
     "printf": "WrongType|TooManyArgs|NotEnoughArgs",
@@ -25,17 +25,27 @@ def lines_of(data):
     return lines if lines[-1] else lines[:-1]
 
 
-def header_fault(texts):
+def words_of(text):
+    return re.findall(r"[^\0- ]+", text)
+
+
+def is_second(lines):
+    """Whether an input is of version 2."""
+    return lines != [] and text_of(lines[0]) is not None and words_of(text_of(lines[0])) == ["#2"]
+
+
+def header_fault(texts, command):
     """Why the last of these header lines is refused: the message's end; None where it is kept, and "?" where the model doesn't say."""
-    words = re.findall(r"[^\0- ]+", texts[-1])
-    if words == ["#2"] and len(texts) == 1:
-        # (version 2, whose headers this model doesn't have)
-        return "?"
-    if len(texts) == 1:
-        return None if all(it in KINDS for it in words) else "bad header"
+    words = words_of(texts[-1])
+    if words_of(texts[0]) == ["#2"]:
+        if len(texts) == 3:
+            return None if are_names(words, len(words_of(texts[1]))) else "bad header"
+        texts = texts[1:2] + texts[3:]
+    if len(texts) <= 1:
+        return None if not texts or all(it in KINDS for it in words) else "bad header"
     if len(texts) == 2:
         form = format_of(texts[1])
-        return "not a printf format" if form is None else refusal_of(form, re.findall(r"[^\0- ]+", texts[0]))
+        return "not a printf format" if form is None else None if command == "translate" else refusal_of(form, words_of(texts[0]))
     if len(texts) == 3:
         return None if len(words) == 1 and words[0] in DIALECTS else "bad header"
     dialect = texts[2].strip("".join(map(chr, range(33))))
@@ -43,16 +53,28 @@ def header_fault(texts):
     return None if is_well else "?" if is_well is None else f"not a {dialect} template"
 
 
-def header_message(lines, count):
+def header_message(lines, count, command):
     """The message for the first of so many header lines that is refused, None, or "?"."""
     for number in range(1, count + 1):
         if number > len(lines):
             return f"line {number}: bad header"
         texts = [text_of(it) for it in lines[:number]]
-        why = "not UTF-8" if texts[-1] is None else header_fault(texts)
+        why = "not UTF-8" if texts[-1] is None else header_fault(texts, command)
         if why:
             return "?" if why == "?" else f"line {number}: {why}"
     return None
+
+
+def header_answer(words, lines):
+    """What `plan` or `translate` answers for kinds and a format that are kept."""
+    at = 1 if is_second(lines) else 0
+    kinds, text = words_of(text_of(lines[at])), text_of(lines[1 + 2 * at])
+    if words[0] == "plan":
+        return Answer(0, planned(format_of(text), kinds).encode() + b"\n", b"")
+    wanted = translated(elements_of(text), kinds, words[1])
+    if isinstance(wanted, str):
+        return Answer(0, wanted.encode() + b"\n", b"")
+    return refused(f"line {2 + 2 * at}: element {wanted}: no translation")
 
 
 def is_explained(lines, headers, got, names):
@@ -94,21 +116,22 @@ def check_input(program, case):
     """Each input has an answer that is stated, and what comes after a refused line changes nothing."""
     words, lines = case.words, lines_of(case.data)
     got = program.run(words, case.data)
-    headers = {"rewrite": 4, "plan": 2, "scan": 0}[words[0]]
+    headers = {"rewrite": 4, "plan": 2, "translate": 2, "scan": 0}[words[0]]
+    headers += 2 if headers and is_second(lines) else 0
     program.count("inputs", 1)
     program.count("headers", 1)
-    message = header_message(lines, headers)
+    message = header_message(lines, headers, words[0])
     if message == "?":
         return
-    if message or words[0] == "plan":
-        wanted = refused(message) if message else plan_answer(format_of(lines[1].decode()), re.findall(r"[^\0- ]+", lines[0].decode()))
+    if message or words[0] in ("plan", "translate"):
+        wanted = refused(message) if message else header_answer(words, lines)
         if got != wanted:
             yield Finding("an input", words, case.data, wanted, got)
         return
-    is_large = words[0] == "rewrite" and re.search(rb"[$*]|[0-9]{6}", lines[3])
+    is_large = words[0] == "rewrite" and re.search(rb"[$*]|[0-9]{6}", lines[headers - 1])
     if got == Answer(6, got.output, b"no memory\n") and is_large:
         return
-    names = f"|not a row|template fault: (?:{FAULTS[lines[2].decode().strip(SPACES + chr(0))]})" if words[0] == "rewrite" else ""
+    names = f"|not a row|template fault: (?:{FAULTS[lines[headers - 2].decode().strip(SPACES + chr(0))]})" if words[0] == "rewrite" else ""
     program.count("rows", got.output.count(b"\n"))
     if not is_explained(lines, headers, got, names):
         yield Finding("an input's answer", words, case.data, "an answer that is stated, for a line that can be meant", got)

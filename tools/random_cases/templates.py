@@ -110,14 +110,15 @@ def strfmt_number(hole, kind, value):
     return head + strfmt_pad(hole, format(value % (1 << NUMBERS[kind][0]), hole.type), ">")
 
 
-def strfmt_text(hole, kinds, values, _state):
+def strfmt_text(hole, kinds, values, state):
     if hole.argument == "":
         raise Fault("Invalid")
     if hole.type and hole.type not in "boxXeEfF%s?":
         raise Fault("TypeError")
-    if hole.argument not in map(str, range(len(values))):
+    at = place_of(hole.argument, state["names"])
+    if at is None or str(at) != hole.argument and hole.argument not in state["names"] or at >= len(values):
         raise Fault("KeyError")
-    kind, value = kinds[int(hole.argument)], values[int(hole.argument)]
+    kind, value = kinds[at], values[at]
     if kind in NUMBERS:
         return strfmt_number(hole, kind, value)
     if hole.type not in ("", "s") or hole.alternate or hole.sign:
@@ -131,13 +132,21 @@ def usize_of(text):
     return int(text)
 
 
-def count_of(text, values):
+def place_of(argument, names):
+    """The place that a position or a name stands for, or None where there is no such name."""
+    if re.fullmatch("[0-9]+", argument):
+        return int(argument)
+    return names.index(argument) if argument in names else None
+
+
+def count_of(text, values, names):
     """A width or precision of formatx as a number."""
     if not text.endswith("$"):
         return int(text)
-    if not text[:-1].isdigit() or int(text[:-1]) >= len(values):
+    at = place_of(text[:-1], names)
+    if at is None or at >= len(values):
         raise Fault("Parse")
-    return usize_of(str(values[int(text[:-1])]))
+    return usize_of(str(values[at]))
 
 
 def quoted(value, quote):
@@ -170,11 +179,11 @@ def formatx_text(hole, kinds, values, state):
             raise Fault("Parse")
         precision = usize_of(str(values[at]))
     elif hole.precision:
-        precision = count_of(hole.precision, values)
-    at = implicit() if hole.argument == "" else int(hole.argument) if hole.argument.isdigit() else len(values)
-    if at >= len(values):
+        precision = count_of(hole.precision, values, state["names"])
+    at = implicit() if hole.argument == "" else place_of(hole.argument, state["names"])
+    if at is None or at >= len(values):
         raise Fault("MissingArgument")
-    width = count_of(hole.width, values) if hole.width else 0
+    width = count_of(hole.width, values, state["names"]) if hole.width else 0
     if hole.type not in ("", "?", "x?", "X?"):
         raise Fault("UnsupportedTrait")
     body, shape = formatx_body(hole, kinds[at], values[at], precision)
@@ -194,6 +203,11 @@ FORMATX = re.compile(
     rf"(?::(?:[^}}]?[<^>])?[+-]?#?(?:0(?=[0-9}}.?oxXbeEp]))?{COUNT}?(?:\.(?:{COUNT}|\*))?(?:[xX]?\?|[oxXbeEp])?)?\}})*",
     re.DOTALL,
 )
+
+
+def are_names(names, count):
+    """Whether these are names for so many fields."""
+    return len(names) == count == len(set(names)) and all(re.fullmatch(NAME, it) for it in names)
 
 
 def is_template(dialect, text):

@@ -100,6 +100,50 @@ fn outlives_each_write(rt: HostRuntime) -> Result<(), Fail> {
     Ok(())
 }
 
+/// Headers of sixteen bytes, under which each row is one number.
+const SHORT_HEADERS: &[u8] = b"u8\n%d\nprintf\n%d\n";
+
+// Twenty bytes that come by ten: which read fails, the answer, and what was written.
+#[test]
+fn ends_at_the_read_that_fails(rt: HostRuntime) -> Result<(), Fail> {
+    let alloc = rt.alloc();
+    let bytes = joined(alloc, SHORT_HEADERS, ROWS)?;
+    for (call, want, written) in [
+        (1, Err(ReformatError::ReadFault), b"".as_slice()),
+        (2, Err(ReformatError::ReadFault), b"".as_slice()),
+        (3, Err(ReformatError::ReadFault), ROWS),
+        (4, Ok(2), ROWS),
+    ] {
+        let mut input = MemSource::new(bytes.as_slice().to_vec(alloc)?, 10, vec![in alloc; call]?);
+        let mut output = sink(alloc, 1)?;
+        let got = reformat(alloc, &mut input, &mut output, 100);
+        assert_eq!(rt; got, want, "read {call}");
+        assert_eq!(rt; output.bytes(), written, "read {call}");
+    }
+    Ok(())
+}
+
+// The same bytes, written one at a time: which write fails, the answer, and what was written.
+#[test]
+fn ends_at_the_write_that_fails(rt: HostRuntime) -> Result<(), Fail> {
+    let alloc = rt.alloc();
+    let bytes = joined(alloc, SHORT_HEADERS, ROWS)?;
+    for (call, want, written) in [
+        (1, Err(ReformatError::WriteFault), b"".as_slice()),
+        (2, Err(ReformatError::WriteFault), b"7".as_slice()),
+        (3, Err(ReformatError::WriteFault), b"7\n".as_slice()),
+        (4, Err(ReformatError::WriteFault), b"7\n8".as_slice()),
+        (5, Ok(2), ROWS),
+    ] {
+        let mut input = source(alloc, &bytes, 4096)?;
+        let mut output = MemSink::new(vec![in alloc; 0; 10]?, 1, vec![in alloc; call]?);
+        let got = reformat(alloc, &mut input, &mut output, 100);
+        assert_eq!(rt; got, want, "write {call}");
+        assert_eq!(rt; output.bytes(), written, "write {call}");
+    }
+    Ok(())
+}
+
 // A room too small is a write that fails.
 #[test]
 fn fills_a_room_that_is_too_small(rt: HostRuntime) -> Result<(), Fail> {
