@@ -7,13 +7,10 @@ mod edge_io_proved;
 mod formatx_own;
 mod formatx_page;
 mod formatx_proved;
-mod line_job_page;
 mod numerals_page;
 mod numerals_proved;
 mod printer_page;
 mod printer_proved;
-mod reformat_page;
-mod reformat_proved;
 mod row_plan_page;
 mod row_plan_proved;
 mod scan_fmt_own;
@@ -111,21 +108,9 @@ fn show_rows(rt: &HostRuntime) -> Result<(), Fail> {
     Ok(())
 }
 
-/// What goes line by line.
-fn show_jobs(rt: &HostRuntime) -> Result<(), Fail> {
-    println!(rt; "# line_job_page")?;
-    line_job_page::show(rt)?;
-    println!(rt; "# reformat_page")?;
-    reformat_page::show(rt)?;
-    println!(rt; "# reformat_proved")?;
-    reformat_proved::show(rt)?;
-    Ok(())
-}
-
 fn main(rt: HostRuntime) -> Result<(), Fail> {
     show_ends(&rt)?;
     show_formats(&rt)?;
     show_readings(&rt)?;
-    show_rows(&rt)?;
-    show_jobs(&rt)
+    show_rows(&rt)
 }

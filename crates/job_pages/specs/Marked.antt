@@ -4,7 +4,7 @@ use Rattle.std.proofs.Common.{sym, ◌∙◌}
 use Rattle.line_job.specs.Laws.{AreClear}
 use Rattle.line_job.specs.Rules.{Rules}
 use Rattle.line_job.specs.Told.{line_message}
-use Rattle.pages.specs.declared.line_job_page.Empty.{Empty}
+use Rattle.job_pages.specs.declared.line_job_page.Empty.{Empty}
 
 -- Each line may come next.
 pub data Stage : Type 0 where

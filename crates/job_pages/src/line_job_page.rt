@@ -1,6 +1,6 @@
 ghost use Rattle.line_job.specs.Ends.{sink_seen, source_seen};
 ghost use Rattle.line_job.specs.Told.{RunsTold};
-ghost use Rattle.pages.specs.Marked.{any_line, empty_message, mark_clear, mark_rules, Stage};
+ghost use Rattle.job_pages.specs.Marked.{any_line, empty_message, mark_clear, mark_rules, Stage};
 ghost use Rattle.std.specs.Prelude.{◌≡◌, ◌++◌, ◌∷◌, [], codes, IfErr, OnErr, OnOk, string_bytes};
 
 use edge_io::{MemSink, MemSource, Sink, Source};
