@@ -8,7 +8,7 @@ ghost use Rattle.pieces.specs.Inner.Strfmt.{BeginsWithPlace, Moves};
 ghost use Rattle.pieces.specs.Inner.Sound.{StandsFor};
 
 use crate::layout::{Layout, form_at};
-use numerals::{NoMemory, Radix, digits_of};
+use numerals::{NoMemory, Radix, digits_of, read_digits};
 use std::alloc::Global;
 use values::Kind;
 
@@ -20,14 +20,13 @@ fn is_decimal(text: &str, number: usize) -> bool
     text == digits_of(number as u128, Radix::Ten, false, &mut buffer)
 }
 
-/// The position that the text is in decimal, if it is that of a kind.
-fn place_in(text: &str, kinds: &[Kind]) -> Option<usize>
+/// The position that the text is in decimal, without a sign and without a zero in front.
+fn place_in(text: &str) -> Option<usize>
     ensures { IfSome result (λ place. text.now ≡ numeral 10 false place) }
 {
-    'places: for place in 0..kinds.len() {
-        if is_decimal(text, place) {
-            return Some(place);
-        }
+    let place = usize::try_from(read_digits(text, Radix::Ten)?).ok()?;
+    if is_decimal(text, place) {
+        return Some(place);
     }
     None
 }
@@ -74,11 +73,11 @@ fn push_plain<'t>(
 }
 
 /// The position in a pattern, of which `text` stands behind its opening brace, and what stands behind the pattern.
-fn split_place<'t>(text: &'t str, kinds: &[Kind]) -> Option<(usize, &'t str)>
+fn split_place(text: &str) -> Option<(usize, &str)>
     ensures { IfSome result (λ found. BeginsWithPlace found.0 text.entry.now found.1.now) }
 {
     let (inner, rest) = text.split_once('}')?;
-    let place = place_in(inner, kinds)?;
+    let place = place_in(inner)?;
     Some((place, rest))
 }
 
@@ -93,7 +92,7 @@ fn push_pattern<'t>(
     ensures moves { IfOk result (λ found. IfSome found (λ rest. Moves kinds.now layout.old (byte "{" ∷ text.entry.now) layout.new rest.now)) }
     ensures shorter { IfOk result (λ found. IfSome found (λ rest. length rest.now < length text.entry.now)) }
 {
-    let Some((place, rest)) = split_place(text, kinds) else {
+    let Some((place, rest)) = split_place(text) else {
         return Ok(None);
     };
     let Some(form) = form_at(kinds, place) else {
