@@ -5,7 +5,7 @@ from typing import Callable, NamedTuple
 KIB, MIB = 1 << 10, 1 << 20
 LIMIT = 256 * MIB
 # Bytes that are held for each byte of a header line, a row and its text, at most. docs/reformat.1 states them.
-KINDS, NAMES, PLANNED, SCANNED, PRINTF, STRFMT, FORMATX = 4, 40, 64, 256, 40, 80, 128
+KINDS, NAMES, PLANNED, SCANNED, PRINTF, STRFMT, FORMATX = 4, 40, 64, 256, 40, 80, 192
 LINE, TEXT = 3, 2
 
 
@@ -187,7 +187,7 @@ def literal_lines():
     text = "a" * 2000000
     yield case("a format of 2 MB of text, plan", "plan", of(headers("", text)), of(headers(text)), peak=PLANNED * len(text))
     given = of(headers("", text, "printf", "x", text))
-    yield no_memory("a format of 2 MB of text, 256 MiB to be had", given, 256 * MIB)
+    yield no_memory("a format of 2 MB of text, 96 MiB to be had", given, 96 * MIB)
     yield case("a format of 2 MB of text", "rewrite", given, of(b"x\n"), peak=SCANNED * len(text), memory=4096 * MIB)
     for dialect, template, a_byte in (("printf", text + "%d", PRINTF), ("strfmt", text + "{0}", STRFMT), ("formatx", text + "{0}", FORMATX)):
         given = of(headers("u8", "%d", dialect, template, "7"))
