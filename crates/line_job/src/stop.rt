@@ -5,6 +5,7 @@ ghost use Rattle.line_job.specs.Ends.{Tells, sink_seen};
 ghost use Rattle.line_job.specs.Told.{status_of};
 
 use edge_io::{Failed, Sink, write_all};
+use std::alloc::AllocError;
 
 /// Why a run stops before its end. Lines count from 1.
 #[derive(Clone, Copy, Debug, PartialEq, Eq)]
@@ -29,6 +30,16 @@ impl<W: Copy> From<Failed> for Stop<W> {
     /// A write that failed.
     fn from(_: Failed) -> Self {
         Stop::WriteFault
+    }
+}
+
+impl<W: Copy> From<AllocError> for Stop<W> {
+    ghost use Rattle.line_job.specs.declared.stop.Stop.TheVariants.{NoMemory};
+
+    ghost from_gives = { λ _ stop. stop ≡ NoMemory };
+
+    fn from(_: AllocError) -> Self {
+        Stop::NoMemory
     }
 }
 

@@ -10,11 +10,18 @@ mod write;
 
 pub use laws::{longer_numeral, numeral_is_std, numeral_of_value, numeral_reads_back, one_numeral};
 pub use read::read_digits;
+use std::alloc::AllocError;
 pub use write::{count_digits, digits_of, push_digits};
 
 /// A growth of a text or a list was refused.
 #[derive(Clone, Copy, Debug, PartialEq, Eq)]
 pub struct NoMemory;
+
+impl From<AllocError> for NoMemory {
+    fn from(_: AllocError) -> NoMemory {
+        NoMemory
+    }
+}
 
 /// The base that a number is written in.
 #[derive(Clone, Copy, Debug, PartialEq, Eq)]

@@ -13,8 +13,8 @@ pub fn push_digits(out: &mut String, n: u128, radix: Radix, upper: bool) -> Resu
     ensures err { OnErr result (string_bytes out.new ≡ string_bytes out.old) }
 {
     let mut buffer = [0; 128];
-    out.push_str(digits_of(n, radix, upper, &mut buffer))
-        .map_err(|_| NoMemory)
+    out.push_str(digits_of(n, radix, upper, &mut buffer))?;
+    Ok(())
 }
 
 /// The digits that `push_digits` appends, written at the end of the buffer. Takes no memory.

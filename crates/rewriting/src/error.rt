@@ -7,6 +7,7 @@ use header_lines::LineCause;
 use line_job::Stop;
 use printer::{RenderFault, TemplateFault};
 use row_plan::Refused;
+use std::alloc::AllocError;
 
 /// Why the rewriting job ended without success. Lines count from 1.
 #[derive(Clone, Copy, Debug, PartialEq, Eq)]
@@ -34,6 +35,16 @@ pub enum ReformatError {
     WriteFault,
     /// There was no memory.
     NoMemory,
+}
+
+impl From<AllocError> for ReformatError {
+    ghost use Rattle.rewriting.specs.declared.error.ReformatError.TheVariants.{NoMemory};
+
+    ghost from_gives = { λ _ error. error ≡ NoMemory };
+
+    fn from(_: AllocError) -> ReformatError {
+        ReformatError::NoMemory
+    }
 }
 
 impl From<LineCause> for ReformatError {

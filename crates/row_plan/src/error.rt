@@ -1,6 +1,7 @@
 // Why there is no plan, and why a line is no row.
 use numerals::NoMemory;
 use separation::Refused;
+use std::alloc::AllocError;
 
 /// Why a format has no plan.
 #[derive(Clone, Copy, Debug, PartialEq, Eq)]
@@ -21,6 +22,17 @@ impl From<NoMemory> for PlanError {
     }
 }
 
+impl From<AllocError> for PlanError {
+    ghost use Rattle.std.specs.Prelude.{◌≡◌};
+    ghost use Rattle.row_plan.specs.declared.error.PlanError.TheVariants.{NoMemory};
+
+    ghost from_gives = { λ _ error. error ≡ NoMemory };
+
+    fn from(_: AllocError) -> PlanError {
+        PlanError::NoMemory
+    }
+}
+
 /// Why a line was not read.
 #[derive(Clone, Copy, Debug, PartialEq, Eq)]
 pub enum RowError {
@@ -36,6 +48,17 @@ impl From<NoMemory> for RowError {
     ghost from_gives = { λ _ error. error ≡ NoMemory };
 
     fn from(_: NoMemory) -> RowError {
+        RowError::NoMemory
+    }
+}
+
+impl From<AllocError> for RowError {
+    ghost use Rattle.std.specs.Prelude.{◌≡◌};
+    ghost use Rattle.row_plan.specs.declared.error.RowError.TheVariants.{NoMemory};
+
+    ghost from_gives = { λ _ error. error ≡ NoMemory };
+
+    fn from(_: AllocError) -> RowError {
         RowError::NoMemory
     }
 }

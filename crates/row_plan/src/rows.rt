@@ -47,7 +47,7 @@ impl Model for RowPlan {
 fn copy(alloc: Global, kinds: &[Kind]) -> Result<Vec<Kind>, NoMemory>
     ensures { IfOk result (λ copies. copies.items ≡ kinds.now) }
 {
-    kinds.to_vec(alloc).map_err(|_| NoMemory)
+    Ok(kinds.to_vec(alloc)?)
 }
 
 /// Whether a field is wider than the line is long.

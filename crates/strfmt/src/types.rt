@@ -2,6 +2,7 @@
 
 ghost use Rattle.std.specs.Prelude.{◌≡◌, Some};
 
+use std::alloc::AllocError;
 use std::error::Error;
 use std::fmt;
 
@@ -46,6 +47,26 @@ pub enum FmtError {
     /// A specification that doesn't fit the type of its value.
     TypeError(String),
     NoMemory,
+}
+
+impl From<AllocError> for FmtError {
+    ghost use Rattle.strfmt.specs.declared.types.FmtError.TheVariants.{NoMemory};
+
+    ghost from_gives = { λ _ error. error ≡ NoMemory };
+
+    fn from(_: AllocError) -> FmtError {
+        FmtError::NoMemory
+    }
+}
+
+impl From<numerals::NoMemory> for FmtError {
+    ghost use Rattle.strfmt.specs.declared.types.FmtError.TheVariants.{NoMemory};
+
+    ghost from_gives = { λ _ error. error ≡ NoMemory };
+
+    fn from(_: numerals::NoMemory) -> FmtError {
+        FmtError::NoMemory
+    }
 }
 
 impl fmt::Display for FmtError {

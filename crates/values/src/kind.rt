@@ -4,7 +4,7 @@ ghost use Rattle.whiteread.specs.Words.{words};
 ghost use Rattle.values.specs.Kind.{kind_word, NamesNoKind, AreKinds, IsFirstUnknown};
 ghost use Rattle.values.specs.declared.kind.KindsError.TheVariants.{NoMemory};
 
-use std::alloc::{AllocFailed, Global};
+use std::alloc::{AllocError, AllocFailed, Global};
 use whiteread::stream::SplitAsciiWhitespace;
 
 /// What a field of a row holds: a number of a type of Rust's, a word, or one character.
@@ -53,6 +53,14 @@ pub enum KindsError {
     /// The word at this place, counted from 1, names no kind, and it is the first such.
     Unknown { place: usize },
     NoMemory,
+}
+
+impl From<AllocError> for KindsError {
+    ghost from_gives = { λ _ e. e ≡ NoMemory };
+
+    fn from(_: AllocError) -> KindsError {
+        KindsError::NoMemory
+    }
 }
 
 impl<T: Drop> From<AllocFailed<T>> for KindsError {
