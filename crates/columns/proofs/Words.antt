@@ -16,7 +16,7 @@ use Rattle.sprintf.specs.declared.parser.ConversionType.{ConversionType}
 use Rattle.sprintf.specs.declared.parser.ConversionType.TheVariants.{String}
 use Rattle.sprintf.specs.Field.{number_of, with_number, word_text, filled_word, cut_to}
 use Rattle.sprintf.specs.Meaning.{by_conversion}
-use Rattle.scan_fmt.specs.Directives.{first, is_blank, Until}
+use Rattle.scan_fmt.specs.Grammar.{first, is_blank, Until}
 use Rattle.scan_fmt.specs.Scanned.{Suits}
 use Rattle.values.specs.declared.kind.Kind.{Kind}
 use Rattle.values.specs.declared.kind.Kind.TheVariants.{Word as WordKind}

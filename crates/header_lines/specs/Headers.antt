@@ -13,7 +13,7 @@ use Rattle.printer.specs.declared.dialect.Dialect.{Dialect}
 use Rattle.printer.specs.declared.error.TemplateFault.{TemplateFault}
 use Rattle.printer.specs.declared.error.PrinterError.TheVariants.{Template as NoTemplate}
 use Rattle.printer.specs.Dialect.{dialect_word}
-use Rattle.printer.specs.Prints.{IsTemplateOf, RefusesTemplate}
+use Rattle.printer.specs.Text.{IsTemplateOf, RefusesTemplate}
 use Rattle.header_lines.specs.declared.cause.LineCause.{LineCause}
 use Rattle.header_lines.specs.declared.cause.LineCause.TheVariants.{Header, SourceFormat, Refused as OfFormat, Template}
 

@@ -1,4 +1,4 @@
-ghost use Rattle.printer.specs.Prints.{Prints};
+ghost use Rattle.printer.specs.Text.{Prints};
 ghost use Rattle.std.specs.Prelude.{IfSome, Ok, map, string_bytes};
 ghost use Rattle.values.specs.Datum.{datum_of, kind_of};
 

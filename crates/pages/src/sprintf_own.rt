@@ -1,5 +1,5 @@
 ghost use Rattle.std.specs.Prelude.{◌≡◌, codes, if◌then◌else◌};
-ghost use Rattle.sprintf.specs.Carried.{word_meaning};
+ghost use Rattle.sprintf.specs.Values.{word_meaning};
 
 use sprintf::{ConversionSpecifier, Printf, vsprintf};
 use std::alloc::Global;

@@ -1,6 +1,6 @@
 ghost use Rattle.std.specs.Prelude.{[], ◌∷◌, IfOk, codes, string_bytes};
-ghost use Rattle.sprintf.specs.Carried.{unsigned_meaning};
-ghost use Rattle.sprintf.specs.Printed.{PrintsFormat};
+ghost use Rattle.sprintf.specs.Values.{unsigned_meaning};
+ghost use Rattle.sprintf.specs.Text.{PrintsFormat};
 
 use sprintf::{Result, vsprintf};
 use std::alloc::Global;

@@ -18,7 +18,7 @@ use Rattle.sprintf.specs.declared.parser.NumericParam.{NumericParam}
 use Rattle.sprintf.specs.declared.parser.NumericParam.TheVariants.{Literal}
 use Rattle.sprintf.specs.Field.{filled_number, filled_word, number_of, with_number, number_text, unsigned_text, signed_text, word_text, prefix_of, digits_of, sign_of, cut_to}
 use Rattle.sprintf.specs.Meaning.{Meaning, by_conversion}
-use Rattle.sprintf.specs.Printed.{field_by, field_text, onto, param_of, printed, stars, then_with, value_text, wanted, wanted_by}
+use Rattle.sprintf.specs.Text.{field_by, field_text, onto, param_of, printed, stars, then_with, value_text, wanted, wanted_by}
 use Rattle.values.specs.declared.kind.Kind.{Kind}
 use Rattle.values.specs.declared.kind.Kind.TheVariants as Of
 use Rattle.values.specs.Datum.{printf_meaning}

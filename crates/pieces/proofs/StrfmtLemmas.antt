@@ -21,9 +21,9 @@ use Rattle.formatx.specs.Values.{decimal_of}
 use Rattle.strfmt.specs.Fault.{Outcome}
 use Rattle.strfmt.specs.Field.{Integer, integer_field, text_field, unsigned, signed, digits_of, laid, sides}
 use Rattle.strfmt.specs.Inner.Cutting.{IsPlainFront}
-use Rattle.strfmt.specs.Parts.{Parts as SpecParts, IsWritten, HasNoFill, IsFlag, IsNumber, alignment_of}
-use Rattle.strfmt.specs.Pattern.{IsRead, key_of, specification_of, read_as}
-use Rattle.strfmt.specs.Piece.{Piece, ordinary, escape, pattern, IsBrace, HasNoBrace, IsCut}
+use Rattle.strfmt.specs.Grammar.Parts.{Parts as SpecParts, IsWritten, HasNoFill, IsFlag, IsNumber, alignment_of}
+use Rattle.strfmt.specs.Grammar.Pattern.{IsRead, key_of, specification_of, read_as}
+use Rattle.strfmt.specs.Grammar.{Piece, ordinary, escape, pattern, IsBrace, HasNoBrace, IsCut}
 use Rattle.strfmt.specs.Spec.{Spec, View}
 use Rattle.strfmt.specs.Text.{Meaning, filled_by, joined, then_next}
 use Rattle.strfmt.specs.declared.cause.Cause.TheVariants.{NoKey}
@@ -31,7 +31,7 @@ use Rattle.strfmt.specs.declared.types.Alignment.{Alignment}
 use Rattle.strfmt.specs.declared.types.Alignment.TheVariants.{Unspecified, Left, Right}
 use Rattle.strfmt.specs.declared.types.Sign.TheVariants.{Unspecified as NoSign}
 use Rattle.strfmt.proofs.CutLemmas.{cut_plain}
-use Rattle.printer.specs.Prints.{value_at_key}
+use Rattle.printer.specs.Text.{value_at_key}
 use Rattle.printer.specs.declared.dialect.Dialect.TheVariants.{Strfmt}
 use Rattle.values.specs.declared.kind.Kind.{Kind}
 use Rattle.values.specs.declared.kind.Kind.TheVariants as Of

@@ -1,6 +1,6 @@
 // A template in pieces, and the rows that it prints.
 ghost use Rattle.std.specs.Prelude.{◌≡◌, ◌++◌, ℕ, List, [], IfOk, IfSome, Ok, OnErr, OnOk, string_bytes};
-ghost use Rattle.printer.specs.Prints.{Prints};
+ghost use Rattle.printer.specs.Text.{Prints};
 ghost use Rattle.tokens.specs.Tokens.{AreTokens, data_of};
 ghost use Rattle.columns.specs.Fields.{AreFieldsAt};
 ghost use Rattle.pieces.specs.Inner.Sound.{StandsFor, StandsOver};

@@ -1,6 +1,6 @@
 // What a field of a printf format prints of a token.
 ghost use Rattle.std.specs.Prelude.{◌≡◌, ◌++◌, IsTrue, OnErr, OnOk, string_bytes};
-ghost use Rattle.sprintf.specs.Carried.{arg_meaning};
+ghost use Rattle.sprintf.specs.Values.{arg_meaning};
 ghost use Rattle.row_format.specs.Columns.{text_or_none};
 ghost use Rattle.pieces.specs.Inner.Layout.{IsTokenOfSome};
 ghost use Rattle.pieces.specs.Inner.Source.{IsComplement, source_meaning, source_of, decimal_source, bits_source, word_source};

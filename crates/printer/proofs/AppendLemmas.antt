@@ -5,7 +5,7 @@ use Rattle.std.specs.Borrow.{MutBor}
 use Rattle.std.specs.Fn.{Mut, CalledAtMut}
 use Rattle.numerals.specs.Answer.{AppendsAnswer}
 use Rattle.sprintf.specs.Meaning.{Meaning as PrintfMeaning}
-use Rattle.sprintf.specs.Printed.{printed}
+use Rattle.sprintf.specs.Text.{printed}
 use Rattle.sprintf.specs.declared.PrintfError.{PrintfError}
 use Rattle.sprintf.specs.declared.PrintfError.TheVariants.{NoMemory as PrintfNoMemory}
 use Rattle.sprintf.specs.declared.parser.FormatElement.{FormatElement}
@@ -31,7 +31,7 @@ use Rattle.printer.specs.declared.error.RenderFault.{RenderFault}
 use Rattle.printer.specs.declared.error.TextError.{TextError}
 use Rattle.printer.specs.declared.error.TextError.TheVariants.{Fault as TextFault, NoMemory as NoRoom}
 use Rattle.printer.specs.Fault.{strfmt_told, IsPrintfFault}
-use Rattle.printer.specs.Prints.{PrintsBy, named_from, value_at_key}
+use Rattle.printer.specs.Text.{PrintsBy, named_from, value_at_key}
 use Rattle.printer.specs.Inner.Appending.{AppendsWhere, ElementsPrint, IsCarriedFault, TellsPrintf, TellsStrfmt, TellsFormatx}
 use Rattle.printer.specs.Inner.State.{AreInPlace, name_of}
 use Rattle.printer.proofs.ValueLemmas.{each_value, fault_is_carried}

@@ -19,7 +19,7 @@ use Rattle.formatx.specs.declared.value.Name.{Name}
 use Rattle.values.specs.declared.value.Value.{Value}
 use Rattle.values.specs.Datum.{kind_of, datum_of, each_of}
 use Rattle.values.specs.Templates.{strfmt_meaning, value_display}
-use Rattle.printer.specs.Prints.{value_at_key, named_from}
+use Rattle.printer.specs.Text.{value_at_key, named_from}
 use Rattle.printer.specs.Inner.State.{AreInPlace, name_of}
 use Rattle.printer.proofs.ValueLemmas.{each_value}
 use Rattle.printer.specs.Inner.Keys.{IsPosition, first_of}

@@ -2,7 +2,7 @@
 use Rattle.std.proofs.Common.{◌≡◌, inl, inr, ℕ, List, true, get_or, arith, refl, sym, ap, ◌∙◌, subst, Result, Ok, Err}
 use Rattle.sprintf.specs.Grammar.{IsFormat}
 use Rattle.sprintf.specs.Meaning.{Meaning}
-use Rattle.sprintf.specs.Printed.{printed}
+use Rattle.sprintf.specs.Text.{printed}
 use Rattle.sprintf.specs.declared.PrintfError.{PrintfError}
 use Rattle.sprintf.specs.declared.PrintfError.TheVariants.{ParseError, WrongType, TooManyArgs, NotEnoughArgs, Unknown, NoMemory}
 use Rattle.sprintf.specs.declared.parser.FormatElement.{FormatElement}
@@ -21,7 +21,7 @@ use Rattle.printer.specs.declared.dialect.Dialect.TheVariants.{Printf, Strfmt, F
 use Rattle.printer.specs.declared.error.RenderFault.{RenderFault}
 use Rattle.printer.specs.Fault.{IsPrintfFault, strfmt_told, formatx_told}
 use Rattle.printer.specs.Laws.{PrintsOnce, DialectWordsDiffer}
-use Rattle.printer.specs.Prints.{PrintsBy, named_from, value_at_key}
+use Rattle.printer.specs.Text.{PrintsBy, named_from, value_at_key}
 
 -- ---- printf
 

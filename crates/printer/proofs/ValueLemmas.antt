@@ -5,7 +5,7 @@ use Rattle.std.proofs.lemmas.List.{length-map, length-take-le, map-append, take_
 use Rattle.std.proofs.lemmas.List.Elements.{All-from_recursion}
 use Rattle.sprintf.specs.declared.arg.Arg.TheVariants.{U8, U16, U32, U64, Usize, I8, I16, I32, I64, Isize, Char, Str}
 use Rattle.sprintf.specs.Laws.{NeverAnswers}
-use Rattle.sprintf.specs.Printed.{printed}
+use Rattle.sprintf.specs.Text.{printed}
 use Rattle.sprintf.specs.declared.PrintfError.{PrintfError}
 use Rattle.sprintf.specs.declared.PrintfError.TheVariants.{ParseError, WrongType as CauseWrongType, TooManyArgs as CauseTooManyArgs, NotEnoughArgs as CauseNotEnoughArgs, Unknown, NoMemory}
 use Rattle.sprintf.specs.declared.parser.FormatElement.{FormatElement}
@@ -18,7 +18,7 @@ use Rattle.values.specs.declared.value.Value.{Value}
 use Rattle.values.specs.declared.value.Value.TheVariants.{U8 as OfU8, U16 as OfU16, U32 as OfU32, U64 as OfU64, Usize as OfUsize, I8 as OfI8, I16 as OfI16, I32 as OfI32, I64 as OfI64, Isize as OfIsize, Word as OfWord, Char as OfChar}
 use Rattle.values.specs.Datum.{Datum, kind_of, datum_of, each_of, word_text, value_meaning}
 use Rattle.printer.specs.declared.error.RenderFault.TheVariants.{WrongType, TooManyArgs, NotEnoughArgs}
-use Rattle.printer.specs.Prints.{named_from}
+use Rattle.printer.specs.Text.{named_from}
 use Rattle.printer.specs.Inner.Appending.{IsCarriedFault}
 use Rattle.printer.specs.Inner.State.{AreInPlace, name_of}
 

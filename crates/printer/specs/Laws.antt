@@ -5,7 +5,7 @@ use Rattle.values.specs.Datum.{Datum}
 use Rattle.printer.specs.declared.dialect.Dialect.{Dialect}
 use Rattle.printer.specs.declared.error.RenderFault.{RenderFault}
 use Rattle.printer.specs.Dialect.{dialect_word}
-use Rattle.printer.specs.Prints.{Printing, Prints}
+use Rattle.printer.specs.Text.{Printing, Prints}
 
 -- A template prints one text or one fault over values.
 abbrev pub PrintsOnce : Type 0

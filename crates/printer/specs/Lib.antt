@@ -2,4 +2,4 @@ pub mod Dialect
 pub mod Fault
 pub mod Inner
 pub mod Laws
-pub mod Prints
+pub mod Text

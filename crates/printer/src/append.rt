@@ -5,7 +5,7 @@ ghost use Rattle.strfmt.specs.Text.{filled_by};
 ghost use Rattle.strfmt.specs.Values.{Displays};
 ghost use Rattle.values.specs.Datum.{datum_of, each_of, kind_of};
 ghost use Rattle.values.specs.Templates.{strfmt_meaning};
-ghost use Rattle.printer.specs.Prints.{PrintsBy, value_at_key};
+ghost use Rattle.printer.specs.Text.{PrintsBy, value_at_key};
 ghost use Rattle.printer.specs.declared.dialect.Dialect.TheVariants as Of;
 ghost use Rattle.printer.specs.Inner.Appending.{AppendsWhere, ElementsPrint};
 ghost use Rattle.printer.specs.Inner.State.{AreInPlace, name_of};

@@ -4,7 +4,7 @@ ghost use Rattle.std.specs.Str.{byte};
 ghost use Rattle.formatx.specs.Scene.{named_position, position_of};
 ghost use Rattle.values.specs.Datum.{datum_of, each_of, kind_of};
 ghost use Rattle.values.specs.Templates.{strfmt_meaning, value_display};
-ghost use Rattle.printer.specs.Prints.{value_at_key};
+ghost use Rattle.printer.specs.Text.{value_at_key};
 ghost use Rattle.printer.specs.Inner.Keys.{IsPosition, first_of};
 ghost use Rattle.printer.specs.Inner.State.{AreInPlace, name_of};
 

@@ -1,7 +1,7 @@
 // A template that is parsed once and prints many lists of values.
 ghost use Rattle.std.specs.Prelude.{◌≡◌, ◌++◌, ℕ, List, [], map, IfOk, IfErr, OnOk, OnErr, Ok, string_bytes};
 ghost use Rattle.values.specs.Datum.{kind_of, datum_of, word_text};
-ghost use Rattle.printer.specs.Prints.{Prints, IsTemplateOf, RefusesTemplate, RefusesText};
+ghost use Rattle.printer.specs.Text.{Prints, IsTemplateOf, RefusesTemplate, RefusesText};
 ghost use Rattle.printer.specs.Inner.State.{AreInPlace, StandsFor, dialect_of, name_of};
 
 use crate::append::{append_formatx, append_printf, append_strfmt};
@@ -31,7 +31,7 @@ pub struct Printer<'t> {
 
 impl<'t> Model for Printer<'t> {
     ghost use Rattle.std.specs.Prelude.{map, string_bytes};
-    ghost use Rattle.printer.specs.Prints.{Printing};
+    ghost use Rattle.printer.specs.Text.{Printing};
     ghost use Rattle.printer.specs.Inner.State.{IsSound, dialect_of, name_of};
 
     ghost Value = { Printing };

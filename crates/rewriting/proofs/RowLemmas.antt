@@ -12,7 +12,7 @@ use Rattle.row_format.specs.Row.{IsRow as IsPlanRow}
 use Rattle.row_plan.specs.Plan.{IsRead}
 use Rattle.printer.specs.declared.dialect.Dialect.{Dialect}
 use Rattle.printer.specs.declared.dialect.Dialect.TheVariants.{Printf}
-use Rattle.printer.specs.Prints.{Printing, Prints}
+use Rattle.printer.specs.Text.{Printing, Prints}
 use Rattle.printer.specs.declared.error.RenderFault.{RenderFault}
 use Rattle.line_job.specs.declared.job.Refusal.{Refusal}
 use Rattle.line_job.specs.declared.job.Refusal.TheVariants.{Line, NoMemory}

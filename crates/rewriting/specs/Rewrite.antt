@@ -2,14 +2,14 @@
 use Rattle.std.specs.Prelude.{◌≡◌, ℕ, List, Result, Ok}
 use Rattle.sprintf.specs.declared.parser.FormatElement.{FormatElement}
 use Rattle.sprintf.specs.Grammar.{IsFormat}
-use Rattle.sprintf.specs.Printed.{printed}
+use Rattle.sprintf.specs.Text.{printed}
 use Rattle.values.specs.declared.kind.Kind.{Kind}
 use Rattle.values.specs.Datum.{Datum, printf_meaning, each_of}
 use Rattle.row_format.specs.Columns.{columns_of}
 use Rattle.row_format.specs.Fit.{AreFit}
 use Rattle.printer.specs.declared.dialect.Dialect.{Dialect}
 use Rattle.printer.specs.declared.error.RenderFault.{RenderFault}
-use Rattle.printer.specs.Prints.{Prints}
+use Rattle.printer.specs.Text.{Prints}
 use Rattle.header_lines.specs.declared.heading.Version.{Version}
 
 -- What the headers say: the version, the kinds of the fields and their names, the format of the rows, and a dialect and the template that is written in it.

@@ -10,7 +10,7 @@ use Rattle.sprintf.specs.declared.parser.FormatElement.{FormatElement}
 use Rattle.sprintf.specs.declared.parser.FormatElement.TheVariants.{Verbatim, Format}
 use Rattle.sprintf.specs.Field.{number_of, number_text, unsigned_text, signed_text, character_text, word_text}
 use Rattle.sprintf.specs.Meaning.{Meaning, by_conversion}
-use Rattle.sprintf.specs.Printed.{printed, field_by, then_with, wanted_by, param_of, stars, value_text}
+use Rattle.sprintf.specs.Text.{printed, field_by, then_with, wanted_by, param_of, stars, value_text}
 use Rattle.values.specs.declared.kind.Kind.{Kind}
 use Rattle.values.specs.declared.kind.Kind.TheVariants.{U8, U16, U32, U64, Usize, I8, I16, I32, I64, Isize, Word, Char as CharKind}
 use Rattle.values.specs.Datum.{Datum, natural, integer, word, character, IsOfKind, printf_meaning, each_of}

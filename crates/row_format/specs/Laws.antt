@@ -3,7 +3,7 @@ use Rattle.std.specs.Prelude.{◌≡◌, ◌≤◌, ℕ, List, [], ◌∷◌, le
 use Rattle.std.specs.Str.{chars, IsUtf8}
 use Rattle.sprintf.specs.declared.parser.FormatElement.{FormatElement}
 use Rattle.sprintf.specs.declared.parser.NumericParam.TheVariants.{Literal}
-use Rattle.sprintf.specs.Printed.{printed}
+use Rattle.sprintf.specs.Text.{printed}
 use Rattle.scan_fmt.specs.Scanned.{ScannedTexts}
 use Rattle.values.specs.declared.kind.Kind.{Kind}
 use Rattle.values.specs.Datum.{Datum, IsOfKind, printf_meaning, each_of}

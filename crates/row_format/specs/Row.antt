@@ -5,7 +5,7 @@ use Rattle.std.specs.Str.{chars}
 use Rattle.numerals.specs.Numeral.{IsDigitText, text_value}
 use Rattle.sprintf.specs.declared.parser.ConversionType.{ConversionType}
 use Rattle.sprintf.specs.declared.parser.ConversionType.TheVariants.{DecInt, OctInt, HexIntLower, HexIntUpper, Char, String}
-use Rattle.scan_fmt.specs.Readings.{ReadsUnsigned, ReadsSigned}
+use Rattle.scan_fmt.specs.Values.{ReadsUnsigned, ReadsSigned}
 use Rattle.values.specs.declared.kind.Kind.{Kind}
 use Rattle.values.specs.Datum.{Datum, natural, integer, word, character, IsOfKind}
 use Rattle.row_format.specs.Columns.{Column, Columns, row_text}

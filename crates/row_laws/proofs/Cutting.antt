@@ -12,7 +12,7 @@ use Rattle.sprintf.specs.Field.{prefix_of}
 use Rattle.sprintf.specs.declared.parser.ConversionSpecifier.{ConversionSpecifier}
 use Rattle.sprintf.specs.declared.parser.ConversionType.{ConversionType}
 use Rattle.sprintf.specs.declared.parser.ConversionType.TheVariants.{DecInt, OctInt, HexIntLower, HexIntUpper, Char, String}
-use Rattle.scan_fmt.specs.Directives.{is_blank, after_blanks, first, letter, limit_of, Notation, Decimal, Hexadecimal, Number, Directive, Exactly, Field, Cuts}
+use Rattle.scan_fmt.specs.Grammar.{is_blank, after_blanks, first, letter, limit_of, Notation, Decimal, Hexadecimal, Number, Directive, Exactly, Field, Cuts}
 use Rattle.values.specs.declared.kind.Kind.{Kind}
 use Rattle.values.specs.declared.kind.Kind.TheVariants.{U8, U16, U32, U64, Usize, I8, I16, I32, I64, Isize, Word, Char as CharKind}
 use Rattle.row_format.specs.Columns.{Column, Columns, width_of}

@@ -6,7 +6,7 @@ use Rattle.sprintf.specs.declared.parser.ConversionSpecifier.{ConversionSpecifie
 use Rattle.sprintf.specs.declared.parser.ConversionType.{ConversionType}
 use Rattle.sprintf.specs.declared.parser.ConversionType.TheVariants.{DecInt, OctInt, HexIntLower, HexIntUpper, Char as CharConversion, String}
 use Rattle.sprintf.specs.Field.{prefix_of}
-use Rattle.scan_fmt.specs.Directives.{Until}
+use Rattle.scan_fmt.specs.Grammar.{Until}
 use Rattle.scan_fmt.specs.Scanned.{Suits}
 use Rattle.values.specs.declared.kind.Kind.{Kind}
 use Rattle.values.specs.declared.kind.Kind.TheVariants.{Word, Char}

@@ -6,7 +6,7 @@ use Rattle.std.specs.Str.{chars, IsUtf8, IsAscii}
 use Rattle.std.proofs.lemmas.Bool.{cases_Bool, and_parts, eqb-true}
 use Rattle.std.proofs.lemmas.Bool.Decides.{nat_tests}
 use Rattle.std.proofs.lemmas.Str.{chars-append, chars-IsAscii, IsUtf8-append, IsUtf8-nil}
-use Rattle.scan_fmt.specs.Directives.{is_blank, Directive, Exactly, Field, Shape, Number, Hexadecimal}
+use Rattle.scan_fmt.specs.Grammar.{is_blank, Directive, Exactly, Field, Shape, Number, Hexadecimal}
 use Rattle.scan_fmt.specs.Scanned.{IsLongest, MayTake, Token, token_text, Outcome, Found, passed, Takes}
 use Rattle.scan_fmt.proofs.Characters.{ascii_from}
 use Rattle.scan_fmt.proofs.Digits.{Form, bare, with_x, with_0x, form_of, each_weaker}

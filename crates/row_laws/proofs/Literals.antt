@@ -7,7 +7,7 @@ use Rattle.std.proofs.lemmas.Bool.{cases_eq, ne_eqb, ltb-false, ltb-true, and_pa
 use Rattle.std.proofs.lemmas.Grind.{flat_map-append}
 use Rattle.std.proofs.lemmas.List.{append-nil}
 use Rattle.std.proofs.lemmas.Str.{chars-encodes, encodes-append, encode_ascii, encodes-chars, scalars-chars}
-use Rattle.scan_fmt.specs.Directives.{first, is_blank, after_blanks, Exactly, Spells}
+use Rattle.scan_fmt.specs.Grammar.{first, is_blank, after_blanks, Exactly, Spells}
 use Rattle.row_format.specs.Planned.{escaped_byte, escaped}
 
 -- A character and what it is escaped to.

@@ -17,7 +17,7 @@ use Rattle.sprintf.specs.declared.parser.ConversionSpecifier.{ConversionSpecifie
 use Rattle.sprintf.specs.declared.parser.ConversionType.{ConversionType}
 use Rattle.sprintf.specs.declared.parser.ConversionType.TheVariants.{DecInt, OctInt, HexIntLower, HexIntUpper, Char as CharConversion, String as StringConversion}
 use Rattle.sprintf.specs.declared.parser.NumericParam.TheVariants.{Literal}
-use Rattle.sprintf.specs.Carried.{character_where, signed_character}
+use Rattle.sprintf.specs.Values.{character_where, signed_character}
 use Rattle.sprintf.specs.Field.{filled_number, filled_word, number_of, with_number, number_text, unsigned_text, signed_text, character_text, word_text, prefix_of, digits_of, sign_of, cut_to}
 use Rattle.sprintf.specs.Meaning.{by_conversion}
 use Rattle.scan_fmt.proofs.Characters.{ascii_from}

@@ -1,7 +1,7 @@
 // Texts, character by character.
 ghost use Rattle.std.specs.Prelude.{◌≡◌, ◌<◌, ◌∷◌, ◌++◌, [], length, IfNone, IfSome, encode_utf8};
 ghost use Rattle.std.specs.Str.{chars};
-ghost use Rattle.scan_fmt.specs.Directives.{first};
+ghost use Rattle.scan_fmt.specs.Grammar.{first};
 
 /// The first character, and what follows it.
 pub fn split_first(text: &str) -> Option<(char, &str)>

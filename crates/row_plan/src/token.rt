@@ -3,7 +3,7 @@ ghost use Rattle.std.specs.Prelude.{◌≡◌, ◌↔◌, IsTrue, IfOk};
 ghost use Rattle.std.specs.List.{AllByRecursion};
 ghost use Rattle.std.specs.Str.{chars};
 ghost use Rattle.numerals.specs.Numeral.{base_of};
-ghost use Rattle.scan_fmt.specs.Directives.{is_blank, Until};
+ghost use Rattle.scan_fmt.specs.Grammar.{is_blank, Until};
 ghost use Rattle.scan_fmt.specs.Scanned.{Suits};
 ghost use Rattle.values.specs.Datum.{word};
 ghost use Rattle.row_format.specs.Fit.{MayStandBefore};

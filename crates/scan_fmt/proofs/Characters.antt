@@ -8,7 +8,7 @@ use Rattle.std.specs.Str.{chars, IsUtf8, IsAscii, IsCharBoundary, encode_utf8_al
 use Rattle.std.proofs.lemmas.Bool.{and_parts}
 use Rattle.std.proofs.lemmas.Str.{chars-append, chars-IsAscii, chars-nil, chars_past_char, IsUtf8-from_ascii, IsUtf8-append, IsUtf8-nil, IsUtf8-encode, IsUtf8-take, IsCharBoundary-at_seam, IsCharBoundary-from_take, encodes-chars, encodes-IsAscii, encodes-append, scalars-chars}
 use Rattle.std.proofs.lemmas.List.{append-nil, append_cancel_right, take_at}
-use Rattle.scan_fmt.specs.Directives.{first}
+use Rattle.scan_fmt.specs.Grammar.{first}
 use Rattle.scan_fmt.specs.Scanned.{IsLongest}
 use Rattle.scan_fmt.specs.Sets.{IsListing}
 use Rattle.scan_fmt.proofs.Longest.{longest_stops}

@@ -5,7 +5,7 @@ use Rattle.std.specs.Char.{digit_value}
 use Rattle.std.specs.Str.Parse.{AllDigits}
 use Rattle.std.proofs.lemmas.Bool.{cases_eq, cases_lt, cases_Bool}
 use Rattle.scan_fmt.specs.Sets.{IsListing}
-use Rattle.scan_fmt.specs.Directives.{Until, Solid, Among, Decimal, Hexadecimal, Float, Characters, Number, Directive, Exactly, Field, Expression, AtEnd, first, star, caret, limit_of, Spells, NoDirective, Cuts, is_blank, after_blanks}
+use Rattle.scan_fmt.specs.Grammar.{Until, Solid, Among, Decimal, Hexadecimal, Float, Characters, Number, Directive, Exactly, Field, Expression, AtEnd, first, star, caret, limit_of, Spells, NoDirective, Cuts, is_blank, after_blanks}
 use Rattle.scan_fmt.specs.Expressions.{expression}
 use Rattle.scan_fmt.specs.Inner.Fields.{Content, Shaped, Finds, Ends, IsReadable, Names, SpellsBody, alone, named, field_of, SpellsField}
 use Rattle.scan_fmt.specs.Scanned.{IsLongest}

@@ -5,7 +5,7 @@ use Rattle.std.specs.Char.{digit_value}
 use Rattle.std.specs.Str.Parse.{AllDigits}
 use Rattle.std.proofs.lemmas.Bool.{and_parts, eqb-true}
 use Rattle.std.proofs.lemmas.Bool.Decides.{nat_tests}
-use Rattle.scan_fmt.specs.Directives.{Notation, Decimal, Hexadecimal, Float, first}
+use Rattle.scan_fmt.specs.Grammar.{Notation, Decimal, Hexadecimal, Float, first}
 use Rattle.scan_fmt.specs.Scanned.{IsLongest, Optionally, IsSigned, IsPrefixed, IsFloat, IsNumber, begins_0x}
 use Rattle.scan_fmt.proofs.Longest.{longest_stops, longest_stops_at, longest_same, longest_cons, longest_then}
 

@@ -2,7 +2,7 @@
 use Rattle.std.proofs.Common.{◌≡◌, ◌<◌, ◌≤◌, ℕ, List, [], ◌∷◌, ◌++◌, length, take, drop, Some, inl, inr, sym, ap, subst, refl, ◌∙◌, arith, append_assoc, length-append}
 use Rattle.std.proofs.lemmas.List.{take-append-drop}
 use Rattle.std.proofs.lemmas.Bool.{cases_lt}
-use Rattle.scan_fmt.specs.Directives.{first}
+use Rattle.scan_fmt.specs.Grammar.{first}
 use Rattle.scan_fmt.specs.Scanned.{IsLongest}
 
 -- a longer front goes on with the character that follows the shorter one

@@ -3,7 +3,7 @@ use Rattle.std.proofs.Common.{eqb, cond, ◌≡◌, ◌≢◌, ◌<◌, ℕ, Boo
 use Rattle.std.specs.Char.{digit_value}
 use Rattle.std.specs.Str.Parse.{AllDigits}
 use Rattle.scan_fmt.specs.Sets.{IsListing}
-use Rattle.scan_fmt.specs.Directives.{Run, Until, Solid, Among, Decimal, Hexadecimal, Float, Characters, Number, Directive, Exactly, Field, Expression, AtEnd, first, star, caret, limit_of, Spells, Cuts, after_blanks}
+use Rattle.scan_fmt.specs.Grammar.{Run, Until, Solid, Among, Decimal, Hexadecimal, Float, Characters, Number, Directive, Exactly, Field, Expression, AtEnd, first, star, caret, limit_of, Spells, Cuts, after_blanks}
 use Rattle.scan_fmt.specs.Expressions.{IsDelimited}
 use Rattle.scan_fmt.specs.Inner.Fields.{Content, Shaped, Finds, Ends, Names, SpellsBody, alone, named, field_of, SpellsField}
 use Rattle.scan_fmt.specs.Scanned.{MayTake, token_text, Token, stored_token, Outcome, with_token, Passes, Refuses, ended, refused, passed, Takes, tokens_of, OneAnswer}

@@ -4,7 +4,7 @@ use Rattle.std.specs.List.{AllByRecursion}
 use Rattle.std.specs.Char.{digit_value}
 use Rattle.std.specs.Str.Parse.{AllDigits}
 use Rattle.std.proofs.lemmas.Bool.{cases_Bool, cases_eq, cases_lt}
-use Rattle.scan_fmt.specs.Directives.{Run, Until, Solid, Among, Notation, Decimal, Hexadecimal, Float, Shape, Characters, Number, Directive, Exactly, Field, Expression, AtEnd, first, is_blank, after_blanks}
+use Rattle.scan_fmt.specs.Grammar.{Run, Until, Solid, Among, Notation, Decimal, Hexadecimal, Float, Shape, Characters, Number, Directive, Exactly, Field, Expression, AtEnd, first, is_blank, after_blanks}
 use Rattle.scan_fmt.specs.Sets.{is_in_set}
 use Rattle.scan_fmt.specs.Scanned.{IsLongest, Optionally, IsSigned, IsPrefixed, IsFloat, IsNumber, begins_0x, Within, Suits, MayTake, Token, Outcome, Found, Mismatch, with_token, Passes, Refuses, ended, refused, passed, Takes, tokens_of, SomeAnswer}
 use Rattle.scan_fmt.proofs.Longest.{longest_stops, longest_cons}

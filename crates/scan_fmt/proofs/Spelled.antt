@@ -4,7 +4,7 @@ use Rattle.std.specs.List.{AllByRecursion}
 use Rattle.std.specs.Char.{digit_value}
 use Rattle.std.specs.Str.Parse.{AllDigits}
 use Rattle.scan_fmt.specs.Sets.{IsListing}
-use Rattle.scan_fmt.specs.Directives.{Until, Solid, Among, Decimal, Hexadecimal, Float, Shape, Characters, Number, Exactly, Field, Expression, AtEnd, first, star, caret, letter, limit_of, Limits, SpellsShape, SpellsExpression, Spells, NoDirective}
+use Rattle.scan_fmt.specs.Grammar.{Until, Solid, Among, Decimal, Hexadecimal, Float, Shape, Characters, Number, Exactly, Field, Expression, AtEnd, first, star, caret, letter, limit_of, Limits, SpellsShape, SpellsExpression, Spells, NoDirective}
 use Rattle.scan_fmt.specs.Expressions.{expression}
 use Rattle.scan_fmt.specs.Inner.Fields.{Content, Shaped, Finds, Ends, IsReadable, Names, SpellsBody, alone, named, field_of, SpellsField}
 use Rattle.scan_fmt.specs.Scanned.{IsLongest}

@@ -1,7 +1,7 @@
-pub mod Directives
+pub mod Grammar
 pub mod Expressions
 pub mod Inner
-pub mod Readings
+pub mod Values
 pub mod Scanned
 pub mod Sets
 pub mod Slices

@@ -7,7 +7,7 @@ use Rattle.std.specs.Str.Parse.{AllDigits, without_leading_plus}
 use Rattle.regex.specs.Patterns.{Match}
 use Rattle.scan_fmt.specs.Expressions.{token_span, found_in}
 use Rattle.scan_fmt.specs.Sets.{is_in_set}
-use Rattle.scan_fmt.specs.Directives.{is_blank, after_blanks, first, Run, Until, Solid, Among, Notation, Decimal, Hexadecimal, Float, Shape, Characters, Number, Directive, Exactly, Field, Expression, AtEnd, Cuts}
+use Rattle.scan_fmt.specs.Grammar.{is_blank, after_blanks, first, Run, Until, Solid, Among, Notation, Decimal, Hexadecimal, Float, Shape, Characters, Number, Directive, Exactly, Field, Expression, AtEnd, Cuts}
 
 -- one sign or none, then digits
 abbrev pub IsSigned : List ℕ → Type 0

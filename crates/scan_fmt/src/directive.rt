@@ -2,8 +2,8 @@
 ghost use Rattle.std.specs.Prelude.{◌≡◌, ◌≢◌, ◌<◌, ◌∷◌, ◌++◌, ℕ, List, Option, Bool, true, false, IfOk, IfNone, IfSome, codes};
 ghost use Rattle.std.specs.Str.{byte, chars};
 ghost use Rattle.std.specs.Str.Parse.{AllDigits};
-ghost use Rattle.scan_fmt.specs.Directives.{after_blanks, limit_of, Spells, NoDirective};
-ghost use Rattle.scan_fmt.specs.Directives.{Characters, Among, Field};
+ghost use Rattle.scan_fmt.specs.Grammar.{after_blanks, limit_of, Spells, NoDirective};
+ghost use Rattle.scan_fmt.specs.Grammar.{Characters, Among, Field};
 ghost use Rattle.scan_fmt.specs.Expressions.{IsDelimited};
 ghost use Rattle.scan_fmt.specs.Scanned.{IsLongest};
 ghost use Rattle.scan_fmt.specs.Inner.Fields.{Content, Shaped, Names, SpellsBody, SpellsField, IsReadable, field_of};

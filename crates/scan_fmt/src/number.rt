@@ -3,7 +3,7 @@ ghost use Rattle.std.specs.Prelude.{◌≡◌, ◌<◌, ◌≤◌, ◌+◌, leng
 ghost use Rattle.std.specs.Char.{digit_value};
 ghost use Rattle.std.specs.Str.{byte};
 ghost use Rattle.std.specs.Str.Parse.{AllDigits};
-ghost use Rattle.scan_fmt.specs.Directives.{first};
+ghost use Rattle.scan_fmt.specs.Grammar.{first};
 ghost use Rattle.scan_fmt.specs.Scanned.{IsLongest, Optionally, IsSigned, IsPrefixed, IsFloat, begins_0x};
 
 fn is_digit(byte: u8, radix: u32) -> bool

@@ -104,7 +104,7 @@ pub struct Format<'f> {
 impl<'f> Model for Format<'f> {
     ghost use Rattle.std.specs.Prelude.{ℕ, List, map};
     ghost use Rattle.std.specs.Str.{chars};
-    ghost use Rattle.scan_fmt.specs.Directives.{Cuts};
+    ghost use Rattle.scan_fmt.specs.Grammar.{Cuts};
     ghost use Rattle.scan_fmt.specs.Inner.Parts.{directive_of};
 
     ghost Value = { List ℕ };

@@ -1,7 +1,7 @@
 // What a token reads as: std's reading of integers and `bool`, one character, the token itself, and integers in base 16.
 ghost use Rattle.std.specs.Prelude.{ℕ, List, Option, string_bytes};
 ghost use Rattle.std.specs.Int.{w8, w16, w32, w64, w128};
-ghost use Rattle.scan_fmt.specs.Readings.{ReadsUnsigned, ReadsSigned, ReadsBool, ReadsChar, ReadsText, ReadsSlice};
+ghost use Rattle.scan_fmt.specs.Values.{ReadsUnsigned, ReadsSigned, ReadsBool, ReadsChar, ReadsText, ReadsSlice};
 
 /// A type that a token may be read as.
 pub trait ReadToken: Sized {

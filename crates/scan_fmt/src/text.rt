@@ -1,7 +1,7 @@
 // The front of a text, character by character.
 ghost use Rattle.std.specs.Prelude.{◌≡◌, ◌≢◌, ℕ, ◌<◌, ◌∷◌, ◌++◌, [], List, length, IfNone, IfSome, encode_utf8};
 ghost use Rattle.std.specs.Str.{chars};
-ghost use Rattle.scan_fmt.specs.Directives.{is_blank, after_blanks, first};
+ghost use Rattle.scan_fmt.specs.Grammar.{is_blank, after_blanks, first};
 
 /// The first character, and what follows it.
 pub fn split_first(text: &str) -> Option<(char, &str)>

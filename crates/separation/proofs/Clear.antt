@@ -10,7 +10,7 @@ use Rattle.sprintf.specs.declared.parser.ConversionType.{ConversionType}
 use Rattle.sprintf.specs.declared.parser.ConversionType.TheVariants.{DecInt, OctInt, HexIntLower, HexIntUpper, Char as CharConversion, String}
 use Rattle.sprintf.specs.declared.parser.NumericParam.TheVariants.{FromArgument}
 use Rattle.sprintf.specs.Field.{digits_of, sign_of}
-use Rattle.scan_fmt.specs.Directives.{first}
+use Rattle.scan_fmt.specs.Grammar.{first}
 use Rattle.values.specs.declared.kind.Kind.{Kind}
 use Rattle.values.specs.declared.kind.Kind.TheVariants.{Word, Char}
 use Rattle.values.specs.Datum.{Datum, natural, integer, word, character, IsOfKind}

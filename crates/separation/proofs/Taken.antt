@@ -14,7 +14,7 @@ use Rattle.sprintf.specs.declared.parser.ConversionType.{ConversionType}
 use Rattle.sprintf.specs.declared.parser.ConversionType.TheVariants.{DecInt, OctInt, HexIntLower, HexIntUpper, Char as CharConversion, String}
 use Rattle.sprintf.specs.declared.parser.NumericParam.TheVariants.{FromArgument}
 use Rattle.sprintf.specs.Field.{prefix_of, digits_of, sign_of}
-use Rattle.scan_fmt.specs.Directives.{first, is_blank, Until}
+use Rattle.scan_fmt.specs.Grammar.{first, is_blank, Until}
 use Rattle.scan_fmt.specs.Scanned.{Suits}
 use Rattle.values.specs.declared.kind.Kind.{Kind}
 use Rattle.values.specs.declared.kind.Kind.TheVariants.{Word, Char}

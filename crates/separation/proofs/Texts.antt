@@ -7,7 +7,7 @@ use Rattle.std.specs.Str.Parse.{AllDigits}
 use Rattle.std.proofs.lemmas.Bool.{ne_eqb, eqb-true, and_parts}
 use Rattle.std.proofs.lemmas.Bool.Decides.{nat_tests}
 use Rattle.std.proofs.lemmas.Str.{chars-append, chars_past_char, chars-nil, IsUtf8-encode}
-use Rattle.scan_fmt.specs.Directives.{first}
+use Rattle.scan_fmt.specs.Grammar.{first}
 use Rattle.row_format.specs.Plannable.{trailing_spaces}
 
 -- ---- first characters

@@ -18,7 +18,7 @@ use Rattle.sprintf.specs.declared.parser.NumericParam.{NumericParam}
 use Rattle.sprintf.specs.declared.parser.NumericParam.TheVariants.{Literal, FromArgument}
 use Rattle.sprintf.specs.Field.{number_of, with_number, cut_to, filled_word, word_text, character_text}
 use Rattle.sprintf.specs.Meaning.{by_conversion}
-use Rattle.scan_fmt.specs.Directives.{is_blank, Until}
+use Rattle.scan_fmt.specs.Grammar.{is_blank, Until}
 use Rattle.scan_fmt.specs.Scanned.{Suits}
 use Rattle.values.specs.declared.kind.Kind.{Kind}
 use Rattle.values.specs.declared.kind.Kind.TheVariants.{U8, U16, U32, U64, Usize, I8, I16, I32, I64, Isize, Word, Char}

@@ -14,7 +14,7 @@ use Rattle.sprintf.specs.declared.parser.ConversionType.TheVariants.{DecInt, Oct
 use Rattle.sprintf.specs.declared.parser.NumericParam.TheVariants.{Literal}
 use Rattle.sprintf.specs.Field.{filled_number, filled_word, number_of, with_number, number_text, unsigned_text, signed_text, character_text, word_text, prefix_of, digits_of, sign_of, cut_to}
 use Rattle.sprintf.specs.Meaning.{by_conversion}
-use Rattle.sprintf.specs.Carried.{arg_meaning, character_where, signed_character}
+use Rattle.sprintf.specs.Values.{arg_meaning, character_where, signed_character}
 use Rattle.sprintf.specs.Laws.{FillsItsWidth}
 
 ok_is : {a b : List ℕ} → ◌≡◌ {A = Result (List ℕ) PrintfError} (Ok a) (Ok b) → a ≡ b

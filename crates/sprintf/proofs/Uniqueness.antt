@@ -10,7 +10,7 @@ use Rattle.sprintf.specs.Grammar.{IsField, AreApart, IsSameElement}
 use Rattle.sprintf.specs.Inner.Reading.{read_field}
 use Rattle.sprintf.specs.Laws.{HasOneElementList, HasOneValue}
 use Rattle.sprintf.specs.Meaning.{Meaning}
-use Rattle.sprintf.specs.Printed.{then_with, field_text, wanted, onto, printed}
+use Rattle.sprintf.specs.Text.{then_with, field_text, wanted, onto, printed}
 use Rattle.sprintf.proofs.Complete.{read_field-is, body_of}
 use Rattle.sprintf.proofs.Sound.{some_parts}
 use Rattle.sprintf.proofs.Formats.{Spelled, spelled_of, IsPlain, not_plain, split_same, plain_of}

@@ -17,8 +17,8 @@ use Rattle.sprintf.specs.declared.parser.NumericParam.{NumericParam}
 use Rattle.sprintf.specs.declared.parser.NumericParam.TheVariants.{Literal, FromArgument}
 use Rattle.sprintf.specs.Field.{number_of, with_number, number_text, unsigned_text, signed_text, character_text, word_text}
 use Rattle.sprintf.specs.Meaning.{Meaning, by_conversion}
-use Rattle.sprintf.specs.Carried.{arg_meaning, character_where, signed_character}
-use Rattle.sprintf.specs.Printed.{stars, wanted, then_with, star_number, param_of, value_text, field_by, field_text, onto, printed}
+use Rattle.sprintf.specs.Values.{arg_meaning, character_where, signed_character}
+use Rattle.sprintf.specs.Text.{stars, wanted, then_with, star_number, param_of, value_text, field_by, field_text, onto, printed}
 use Rattle.sprintf.specs.Laws.{NeverAnswers, TakesFaultsFromValues, CarriedRefuseTypes}
 
 rest_all : {X : Type 0} (P : X → Type 0) (n : ℕ) (xs : List X) → AllByRecursion P xs → AllByRecursion P (drop n xs)

@@ -8,9 +8,9 @@ use Rattle.sprintf.specs.declared.parser.ConversionSpecifier.{ConversionSpecifie
 use Rattle.sprintf.specs.declared.parser.FormatElement.{FormatElement}
 use Rattle.sprintf.specs.declared.parser.NumericParam.TheVariants.{Literal, FromArgument}
 use Rattle.sprintf.specs.Grammar.{IsFormat, IsSameElement}
-use Rattle.sprintf.specs.Carried.{arg_meaning}
+use Rattle.sprintf.specs.Values.{arg_meaning}
 use Rattle.sprintf.specs.Meaning.{Meaning}
-use Rattle.sprintf.specs.Printed.{printed}
+use Rattle.sprintf.specs.Text.{printed}
 
 -- a text is the format of at most one list of elements
 abbrev pub HasOneElementList : Type 0

@@ -1,7 +1,7 @@
 pub mod Grammar
 pub mod Field
 pub mod Meaning
-pub mod Carried
-pub mod Printed
+pub mod Values
+pub mod Text
 pub mod Inner
 pub mod Laws

@@ -144,7 +144,7 @@ impl<'a> From<char> for Arg<'a> {
 }
 
 impl<'a> From<&'a str> for Arg<'a> {
-    ghost use Rattle.sprintf.specs.Carried.{IsText};
+    ghost use Rattle.sprintf.specs.Values.{IsText};
 
     ghost from_gives = { λ text arg. IsText arg text.now };
 
@@ -155,7 +155,7 @@ impl<'a> From<&'a str> for Arg<'a> {
 
 impl<'a> From<&'a String> for Arg<'a> {
     ghost use Rattle.std.specs.Prelude.{string_bytes};
-    ghost use Rattle.sprintf.specs.Carried.{IsText};
+    ghost use Rattle.sprintf.specs.Values.{IsText};
 
     ghost from_gives = { λ text arg. IsText arg (string_bytes text.now) };
 
@@ -165,7 +165,7 @@ impl<'a> From<&'a String> for Arg<'a> {
 }
 
 impl<'a> Printf for Arg<'a> {
-    ghost use Rattle.sprintf.specs.Carried.{arg_meaning};
+    ghost use Rattle.sprintf.specs.Values.{arg_meaning};
 
     ghost meaning = { arg_meaning };
 

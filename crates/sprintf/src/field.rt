@@ -5,7 +5,7 @@ ghost use Rattle.numerals.specs.Numeral.{base_of, numeral};
 ghost use Rattle.padding.specs.Field.{field_text};
 ghost use Rattle.sprintf.specs.Field.{filled_number, filled_word, sign_of, prefix_of, digits_of, number_of, cut_to, number_text, signed_text, character_text};
 ghost use Rattle.sprintf.specs.Meaning.{by_conversion};
-ghost use Rattle.sprintf.specs.Carried.{u8_meaning, unsigned_meaning, code_meaning, i8_meaning, char_meaning, word_meaning};
+ghost use Rattle.sprintf.specs.Values.{u8_meaning, unsigned_meaning, code_meaning, i8_meaning, char_meaning, word_meaning};
 
 use crate::{ConversionSpecifier, ConversionType, NumericParam, PrintfError, Result};
 use itoa::Buffer;

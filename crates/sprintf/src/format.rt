@@ -35,7 +35,7 @@ pub trait Printf: Drop {
 }
 
 impl Printf for u8 {
-    ghost use Rattle.sprintf.specs.Carried.{u8_meaning};
+    ghost use Rattle.sprintf.specs.Values.{u8_meaning};
 
     ghost meaning = { u8_meaning };
 
@@ -59,7 +59,7 @@ impl Printf for u8 {
 }
 
 impl Printf for u16 {
-    ghost use Rattle.sprintf.specs.Carried.{code_meaning};
+    ghost use Rattle.sprintf.specs.Values.{code_meaning};
 
     ghost meaning = { code_meaning };
 
@@ -83,7 +83,7 @@ impl Printf for u16 {
 }
 
 impl Printf for u32 {
-    ghost use Rattle.sprintf.specs.Carried.{code_meaning};
+    ghost use Rattle.sprintf.specs.Values.{code_meaning};
 
     ghost meaning = { code_meaning };
 
@@ -107,7 +107,7 @@ impl Printf for u32 {
 }
 
 impl Printf for u64 {
-    ghost use Rattle.sprintf.specs.Carried.{unsigned_meaning};
+    ghost use Rattle.sprintf.specs.Values.{unsigned_meaning};
 
     ghost meaning = { unsigned_meaning };
 
@@ -131,7 +131,7 @@ impl Printf for u64 {
 }
 
 impl Printf for usize {
-    ghost use Rattle.sprintf.specs.Carried.{unsigned_meaning};
+    ghost use Rattle.sprintf.specs.Values.{unsigned_meaning};
 
     ghost meaning = { unsigned_meaning };
 
@@ -155,7 +155,7 @@ impl Printf for usize {
 }
 
 impl Printf for i8 {
-    ghost use Rattle.sprintf.specs.Carried.{i8_meaning};
+    ghost use Rattle.sprintf.specs.Values.{i8_meaning};
 
     ghost meaning = { i8_meaning };
 
@@ -180,7 +180,7 @@ impl Printf for i8 {
 
 impl Printf for i16 {
     ghost use Rattle.std.specs.Int.{w16};
-    ghost use Rattle.sprintf.specs.Carried.{signed_meaning};
+    ghost use Rattle.sprintf.specs.Values.{signed_meaning};
 
     ghost meaning = { signed_meaning w16 };
 
@@ -205,7 +205,7 @@ impl Printf for i16 {
 
 impl Printf for i32 {
     ghost use Rattle.std.specs.Int.{w32};
-    ghost use Rattle.sprintf.specs.Carried.{signed_meaning};
+    ghost use Rattle.sprintf.specs.Values.{signed_meaning};
 
     ghost meaning = { signed_meaning w32 };
 
@@ -230,7 +230,7 @@ impl Printf for i32 {
 
 impl Printf for i64 {
     ghost use Rattle.std.specs.Int.{w64};
-    ghost use Rattle.sprintf.specs.Carried.{signed_meaning};
+    ghost use Rattle.sprintf.specs.Values.{signed_meaning};
 
     ghost meaning = { signed_meaning w64 };
 
@@ -255,7 +255,7 @@ impl Printf for i64 {
 
 impl Printf for isize {
     ghost use Rattle.std.specs.Int.{w64};
-    ghost use Rattle.sprintf.specs.Carried.{signed_meaning};
+    ghost use Rattle.sprintf.specs.Values.{signed_meaning};
 
     ghost meaning = { signed_meaning w64 };
 
@@ -279,7 +279,7 @@ impl Printf for isize {
 }
 
 impl Printf for char {
-    ghost use Rattle.sprintf.specs.Carried.{char_meaning};
+    ghost use Rattle.sprintf.specs.Values.{char_meaning};
 
     ghost meaning = { char_meaning };
 
@@ -303,7 +303,7 @@ impl Printf for char {
 }
 
 impl Printf for &str {
-    ghost use Rattle.sprintf.specs.Carried.{word_meaning};
+    ghost use Rattle.sprintf.specs.Values.{word_meaning};
 
     ghost meaning = { λ s. word_meaning s.now };
 
@@ -327,7 +327,7 @@ impl Printf for &str {
 }
 
 impl Printf for String {
-    ghost use Rattle.sprintf.specs.Carried.{word_meaning};
+    ghost use Rattle.sprintf.specs.Values.{word_meaning};
 
     ghost meaning = { λ s. word_meaning (string_bytes s) };
 

@@ -3,7 +3,7 @@
 
 ghost use Rattle.std.specs.Prelude.{◌≡◌, ◌⊎◌, ◌++◌, ℕ, List, map, drop, string_bytes, IfOk, IfErr, OnOk, Ok, Err};
 ghost use Rattle.numerals.specs.Answer.{IsAnswer, AppendsAnswer};
-ghost use Rattle.sprintf.specs.Printed.{printed, param_of, stars, value_text, field_text, wanted, PrintsFormat, RefusesFormat};
+ghost use Rattle.sprintf.specs.Text.{printed, param_of, stars, value_text, field_text, wanted, PrintsFormat, RefusesFormat};
 ghost use Rattle.sprintf.specs.Inner.Reading.{Starts};
 
 mod arg;

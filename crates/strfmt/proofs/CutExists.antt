@@ -4,8 +4,8 @@ use Rattle.std.specs.Prelude.{slice_index, eqb, IsUtf8}
 use Rattle.std.proofs.lemmas.Bool.Decides.{eqb_tells}
 use Rattle.strfmt.specs.declared.cause.Cause.{Cause}
 use Rattle.strfmt.specs.Spec.{View}
-use Rattle.strfmt.specs.Pattern.{IsRead}
-use Rattle.strfmt.specs.Piece.{Piece, ordinary, escape, pattern, IsBrace, IsNoBrace, HasNoBrace, Break, lone, refused, BeginsWith, BeginsWithPattern, IsCut}
+use Rattle.strfmt.specs.Grammar.Pattern.{IsRead}
+use Rattle.strfmt.specs.Grammar.{Piece, ordinary, escape, pattern, IsBrace, IsNoBrace, HasNoBrace, Break, lone, refused, BeginsWith, BeginsWithPattern, IsCut}
 use Rattle.strfmt.specs.Inner.Cutting.{IsPlainFront}
 use Rattle.strfmt.proofs.CutLemmas.{unclosed_is, nested_is, utf8_rest, utf8_escape, utf8_pattern, cut_plain}
 use Rattle.strfmt.proofs.ReadLemmas.{read_some}

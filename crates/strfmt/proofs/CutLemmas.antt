@@ -5,7 +5,7 @@ use Rattle.std.specs.Prelude.{IsUtf8, IsCharBoundary, slice_index}
 use Rattle.std.proofs.lemmas.Str.{IsCharBoundary-end, IsCharBoundary-before_ascii, IsUtf8-drop, IsUtf8-take, IsUtf8-past_char, encode_ascii}
 use Rattle.std.proofs.Math.Seq.{take-append_seam, drop-append_seam}
 use Rattle.strfmt.specs.declared.cause.Cause.TheVariants.{NestedBrace, NoClosingBrace}
-use Rattle.strfmt.specs.Piece.{Piece, ordinary, IsBrace, IsNoBrace, HasNoBrace, Break, nested, unclosed, IsCut}
+use Rattle.strfmt.specs.Grammar.{Piece, ordinary, IsBrace, IsNoBrace, HasNoBrace, Break, nested, unclosed, IsCut}
 use Rattle.strfmt.specs.Inner.Cutting.{BeginsWithBrace, IsPlainFront, StopsBy}
 
 no_brace-push : (bs : List ℕ) (b : ℕ) → HasNoBrace bs → IsNoBrace b → HasNoBrace (bs ++ b ∷ [])

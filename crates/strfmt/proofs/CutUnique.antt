@@ -4,8 +4,8 @@ use Rattle.std.specs.Prelude.{slice_index, eqb, if◌then◌else◌, IsUtf8}
 use Rattle.std.proofs.lemmas.Bool.{ne_eqb}
 use Rattle.strfmt.specs.declared.cause.Cause.{Cause}
 use Rattle.strfmt.specs.Spec.{View}
-use Rattle.strfmt.specs.Pattern.{IsRead}
-use Rattle.strfmt.specs.Piece.{Piece, ordinary, escape, pattern, IsBrace, IsNoBrace, HasNoBrace, BeginsWithPattern, IsPiece, Break, lone, nested, unclosed, refused, BeginsWith, IsCut}
+use Rattle.strfmt.specs.Grammar.Pattern.{IsRead}
+use Rattle.strfmt.specs.Grammar.{Piece, ordinary, escape, pattern, IsBrace, IsNoBrace, HasNoBrace, BeginsWithPattern, IsPiece, Break, lone, nested, unclosed, refused, BeginsWith, IsCut}
 use Rattle.strfmt.specs.Fault.{Outcome}
 use Rattle.strfmt.specs.Text.{Meaning, Prints, joined}
 use Rattle.strfmt.proofs.ReadLemmas.{read_once}

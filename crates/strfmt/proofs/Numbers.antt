@@ -7,7 +7,7 @@ use Rattle.std.specs.Str.Parse.{digits_value_after}
 use Rattle.std.specs.List.{IsFirstAndRest}
 use Rattle.std.proofs.lemmas.Bool.Decides.{nat_tests}
 use Rattle.strfmt.specs.Inner.Reading.{capped_number}
-use Rattle.strfmt.specs.Parts.{number_of, IsNumber}
+use Rattle.strfmt.specs.Grammar.Parts.{number_of, IsNumber}
 
 abbrev last : ℕ
 last = 18446744073709551615

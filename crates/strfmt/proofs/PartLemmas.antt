@@ -7,7 +7,7 @@ use Rattle.std.proofs.lemmas.Bool.Decides.{eqb_tells}
 use Rattle.std.proofs.lemmas.Str.{encode_same, length-le-encodes}
 use Rattle.strfmt.specs.declared.types.Alignment.{Alignment}
 use Rattle.strfmt.specs.declared.types.Sign.{Sign}
-use Rattle.strfmt.specs.Parts.{alignment_of, sign_of, IsMark, IsFlag, HasNoFill, IsFilled, IsZero, number_of, IsNumber, IsPrecision, Parts, IsWritten}
+use Rattle.strfmt.specs.Grammar.Parts.{alignment_of, sign_of, IsMark, IsFlag, HasNoFill, IsFilled, IsZero, number_of, IsNumber, IsPrecision, Parts, IsWritten}
 
 -- One value and one rest.
 abbrev Same : {A : Type 0} → A → A → List ℕ → List ℕ → Type 0

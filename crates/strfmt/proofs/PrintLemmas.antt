@@ -10,7 +10,7 @@ use Rattle.strfmt.specs.declared.types.FmtError.{FmtError}
 use Rattle.strfmt.specs.declared.types.FmtError.TheVariants.{NoMemory}
 use Rattle.strfmt.specs.Fault.{Fault, Outcome, IsFault, fault_of}
 use Rattle.strfmt.specs.Spec.{View}
-use Rattle.strfmt.specs.Piece.{Piece, ordinary, escape, pattern, Break, cause_of}
+use Rattle.strfmt.specs.Grammar.{Piece, ordinary, escape, pattern, Break, cause_of}
 use Rattle.strfmt.specs.Text.{Meaning, IsPrinted, filled_by, then_next, joined}
 use Rattle.strfmt.specs.Values.{AddsText, Displays}
 use Rattle.strfmt.specs.Walk.{Walked, walked_after, IsRefused, blank, GoesOn, Walks, IsWalk}

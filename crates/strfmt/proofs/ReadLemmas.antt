@@ -8,8 +8,8 @@ use Rattle.strfmt.specs.declared.cause.Cause.{Cause}
 use Rattle.strfmt.specs.declared.cause.Cause.TheVariants.{NoKey, LongType}
 use Rattle.strfmt.specs.Fault.{Check, first_failure}
 use Rattle.strfmt.specs.Spec.{Spec, View}
-use Rattle.strfmt.specs.Parts.{Parts, IsWritten}
-use Rattle.strfmt.specs.Pattern.{key_of, specification_of, checks_of, type_checks, spec_of, is_too_large, first_cause, read_as, IsRead}
+use Rattle.strfmt.specs.Grammar.Parts.{Parts, IsWritten}
+use Rattle.strfmt.specs.Grammar.Pattern.{key_of, specification_of, checks_of, type_checks, spec_of, is_too_large, first_cause, read_as, IsRead}
 use Rattle.strfmt.specs.Inner.Reading.{capped, capped_number}
 use Rattle.strfmt.proofs.PartLemmas.{written_once, written_some}
 use Rattle.strfmt.proofs.CutLemmas.{utf8_past_byte}

@@ -15,8 +15,8 @@ use Rattle.strfmt.specs.declared.cutting.Brace.{Brace}
 use Rattle.strfmt.specs.declared.cutting.Brace.TheVariants.{Open, Close}
 use Rattle.strfmt.specs.declared.template.Found.{Found}
 use Rattle.strfmt.specs.declared.template.Found.TheVariants as Of
-use Rattle.strfmt.specs.Pattern.{IsRead}
-use Rattle.strfmt.specs.Piece.{Piece, ordinary, Break, refused, cause_of, IsBrace, BeginsWithPattern, IsCut}
+use Rattle.strfmt.specs.Grammar.Pattern.{IsRead}
+use Rattle.strfmt.specs.Grammar.{Piece, ordinary, Break, refused, cause_of, IsBrace, BeginsWithPattern, IsCut}
 use Rattle.strfmt.specs.Walk.{Walked, walked_after, Walks, IsWalk}
 use Rattle.strfmt.specs.Inner.Cutting.{StopsBy, brace_byte}
 use Rattle.strfmt.specs.Inner.Reading.{IsFaultOrMemory}

@@ -11,7 +11,7 @@ use Rattle.strfmt.specs.declared.types.Alignment.TheVariants.{Unspecified, Left,
 use Rattle.strfmt.specs.Fault.{Outcome, unless, first_failure}
 use Rattle.strfmt.specs.Field.{shared, sides, laid, padded, cut, Integer, plus_of, prefix_of, digits_of, text_field, text_checks, integer_field, integer_checks}
 use Rattle.strfmt.specs.Spec.{Spec, aligned, width_of, is_plus}
-use Rattle.strfmt.specs.Law.{HasWidth}
+use Rattle.strfmt.specs.Laws.{HasWidth}
 
 -- n fills are shared out between the sides
 shared_sum : (align : Alignment) (n : ℕ) (s : ℕ × ℕ) → shared align n ≡ Some s → s.0 + s.1 ≡ n

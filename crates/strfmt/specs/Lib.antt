@@ -1,12 +1,10 @@
 pub mod Fault
 pub mod Spec
-pub mod Parts
-pub mod Pattern
 pub mod Field
-pub mod Piece
+pub mod Grammar
 pub mod Key
 pub mod Text
 pub mod Values
 pub mod Walk
-pub mod Law
+pub mod Laws
 pub mod Inner

@@ -5,7 +5,7 @@ use Rattle.strfmt.specs.declared.types.FmtError.{FmtError}
 use Rattle.strfmt.specs.declared.types.FmtError.TheVariants.{NoMemory}
 use Rattle.strfmt.specs.Fault.{fault_of, no_value, IsFault, Outcome}
 use Rattle.strfmt.specs.Spec.{Spec, View}
-use Rattle.strfmt.specs.Piece.{Piece, ordinary, escape, pattern, Break, cause_of, IsCut}
+use Rattle.strfmt.specs.Grammar.{Piece, ordinary, escape, pattern, Break, cause_of, IsCut}
 
 -- A value prints a text, or is refused, under each specification.
 abbrev pub Meaning : Type 0

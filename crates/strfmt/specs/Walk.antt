@@ -5,7 +5,7 @@ use Rattle.std.specs.Fn.{Mut, CalledAtMut}
 use Rattle.strfmt.specs.declared.types.FmtError.{FmtError}
 use Rattle.strfmt.specs.Fault.{Fault, fault_of, IsFault}
 use Rattle.strfmt.specs.Spec.{View}
-use Rattle.strfmt.specs.Piece.{Piece, ordinary, escape, pattern, Break, cause_of, IsCut}
+use Rattle.strfmt.specs.Grammar.{Piece, ordinary, escape, pattern, Break, cause_of, IsCut}
 
 -- A walk answers a text, or an error.
 abbrev pub Walked : Type 0

@@ -3,7 +3,7 @@
 ghost use Rattle.std.specs.Prelude.{◌≡◌, ◌≢◌, ◌∷◌, [], ◌<◌, ◌≤◌, length, slice_index, take, drop};
 ghost use Rattle.std.specs.Str.{byte};
 ghost use Rattle.strfmt.specs.Inner.Cutting.{BeginsWithBrace, IsNext, IsPlainFront, brace_byte};
-ghost use Rattle.strfmt.specs.Piece.{IsBrace};
+ghost use Rattle.strfmt.specs.Grammar.{IsBrace};
 
 use crate::cause::Cause;
 

@@ -2,7 +2,7 @@
 
 ghost use Rattle.std.specs.Prelude.{◌≡◌, ◌++◌, ◌∷◌, [], codes};
 ghost use Rattle.strfmt.specs.Fault.{first_failure};
-ghost use Rattle.strfmt.specs.Pattern.{IsRead, Reads, checks_of, first_cause, is_too_large, key_of, spec_of, specification_of, type_checks};
+ghost use Rattle.strfmt.specs.Grammar.Pattern.{IsRead, Reads, checks_of, first_cause, is_too_large, key_of, spec_of, specification_of, type_checks};
 ghost use Rattle.strfmt.specs.Spec.{Appends, is_float_type, is_integer_type, is_minus, is_plus, view_aligned};
 
 use crate::cause::Cause;

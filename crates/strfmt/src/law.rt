@@ -1,6 +1,6 @@
 // Laws of what the crate prints.
 
-ghost use Rattle.strfmt.specs.Law.{FillsWidth, PrintsOnce, ReadsOnce};
+ghost use Rattle.strfmt.specs.Laws.{FillsWidth, PrintsOnce, ReadsOnce};
 
 /// The field of a text and of an integer has at least its width in characters.
 pub fn field_fills_width()

@@ -2,7 +2,7 @@
 
 ghost use Rattle.std.specs.Prelude.{◌≡◌, ◌++◌, ◌<◌, ℕ, Option, Some, MatchOption, encode_utf8, length};
 ghost use Rattle.strfmt.specs.Inner.Reading.{capped, capped_number};
-ghost use Rattle.strfmt.specs.Parts.{HasNoFill, IsFilled, IsFlag, IsMark, IsNumber, IsPrecision, IsWritten, IsZero, Parts as WrittenParts, alignment_of, sign_of};
+ghost use Rattle.strfmt.specs.Grammar.Parts.{HasNoFill, IsFilled, IsFlag, IsMark, IsNumber, IsPrecision, IsWritten, IsZero, Parts as WrittenParts, alignment_of, sign_of};
 
 use crate::{Alignment, Sign};
 use std::marker::Model;
@@ -23,7 +23,7 @@ pub(crate) struct Parts<'a> {
 }
 
 impl<'a> Model for Parts<'a> {
-    ghost use Rattle.strfmt.specs.Parts.{Parts as WrittenParts};
+    ghost use Rattle.strfmt.specs.Grammar.Parts.{Parts as WrittenParts};
 
     ghost Value = { WrittenParts };
 

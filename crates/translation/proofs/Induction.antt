@@ -12,7 +12,7 @@ use Rattle.sprintf.specs.declared.parser.NumericParam.{NumericParam}
 use Rattle.sprintf.specs.declared.parser.NumericParam.TheVariants.{Literal, FromArgument}
 use Rattle.sprintf.specs.Field.{number_of}
 use Rattle.sprintf.specs.Meaning.{Meaning}
-use Rattle.sprintf.specs.Printed.{printed, field_by, field_text, wanted, wanted_by, stars, param_of}
+use Rattle.sprintf.specs.Text.{printed, field_by, field_text, wanted, wanted_by, stars, param_of}
 use Rattle.formatx.specs.Words.{is_plain}
 use Rattle.values.specs.declared.kind.Kind.{Kind}
 use Rattle.values.specs.Datum.{Datum, IsOfKind, printf_meaning, each_of}

@@ -11,7 +11,7 @@ use Rattle.strfmt.specs.Text.{Meaning}
 use Rattle.values.specs.declared.kind.Kind.{Kind}
 use Rattle.values.specs.Datum.{Datum, IsOfKind, each_of}
 use Rattle.values.specs.Templates.{strfmt_meaning}
-use Rattle.printer.specs.Prints.{value_at_key}
+use Rattle.printer.specs.Text.{value_at_key}
 use Rattle.translation.specs.declared.options.Options.{Options}
 use Rattle.translation.specs.declared.target.Target.TheVariants.{Strfmt}
 use Rattle.translation.specs.Table.{translated_field, in_braces}

@@ -9,9 +9,9 @@ use Rattle.std.proofs.lemmas.List.{append-nil}
 use Rattle.std.proofs.Math.Seq.{take-append_seam}
 use Rattle.numerals.specs.Numeral.{numeral}
 use Rattle.strfmt.specs.Fault.{first_failure}
-use Rattle.strfmt.specs.Parts.{IsWritten}
-use Rattle.strfmt.specs.Pattern.{is_too_large, type_checks, spec_of, key_of, specification_of, first_cause, read_as, IsRead}
-use Rattle.strfmt.specs.Piece.{Piece, ordinary, escape, pattern, IsNoBrace, HasNoBrace, IsCut}
+use Rattle.strfmt.specs.Grammar.Parts.{IsWritten}
+use Rattle.strfmt.specs.Grammar.Pattern.{is_too_large, type_checks, spec_of, key_of, specification_of, first_cause, read_as, IsRead}
+use Rattle.strfmt.specs.Grammar.{Piece, ordinary, escape, pattern, IsNoBrace, HasNoBrace, IsCut}
 use Rattle.strfmt.specs.Spec.{Spec, View}
 use Rattle.strfmt.specs.Text.{Meaning, joined}
 use Rattle.formatx.specs.Words.{is_plain}

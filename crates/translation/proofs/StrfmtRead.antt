@@ -10,7 +10,7 @@ use Rattle.strfmt.specs.declared.types.Alignment.{Alignment}
 use Rattle.strfmt.specs.declared.types.Alignment.TheVariants.{Left as AtLeft, Right as AtRight}
 use Rattle.strfmt.specs.declared.types.Sign.{Sign}
 use Rattle.strfmt.specs.declared.types.Sign.TheVariants.{Plus}
-use Rattle.strfmt.specs.Parts.{alignment_of, sign_of, IsMark, IsFlag, HasNoFill, IsFilled, number_of, IsNumber, IsPrecision as IsPrecisionPart, Parts, IsWritten}
+use Rattle.strfmt.specs.Grammar.Parts.{alignment_of, sign_of, IsMark, IsFlag, HasNoFill, IsFilled, number_of, IsNumber, IsPrecision as IsPrecisionPart, Parts, IsWritten}
 use Rattle.translation.specs.declared.options.Letters.{Letters}
 use Rattle.translation.specs.declared.options.Letters.TheVariants.{Unset as NoLetters, LowerHex, UpperHex, Octal}
 use Rattle.translation.specs.declared.options.Side.{Side}

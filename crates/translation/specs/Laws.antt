@@ -5,13 +5,13 @@ use Rattle.sprintf.specs.declared.parser.ConversionType.{ConversionType}
 use Rattle.sprintf.specs.declared.parser.FormatElement.{FormatElement}
 use Rattle.sprintf.specs.declared.parser.FormatElement.TheVariants.{Verbatim, Format}
 use Rattle.sprintf.specs.Field.{number_of}
-use Rattle.sprintf.specs.Printed.{printed}
+use Rattle.sprintf.specs.Text.{printed}
 use Rattle.values.specs.declared.kind.Kind.{Kind}
 use Rattle.values.specs.Datum.{Datum, natural, integer, word, character, IsOfKind, printf_meaning, each_of}
 use Rattle.row_format.specs.Plannable.{Converts}
 use Rattle.printer.specs.declared.dialect.Dialect.{Dialect}
 use Rattle.printer.specs.declared.dialect.Dialect.TheVariants.{Strfmt, Formatx}
-use Rattle.printer.specs.Prints.{PrintsBy}
+use Rattle.printer.specs.Text.{PrintsBy}
 use Rattle.translation.specs.declared.target.Target.{Target}
 use Rattle.translation.specs.declared.target.Target.TheVariants.{Strfmt as ToStrfmt, Formatx as ToFormatx}
 use Rattle.translation.specs.Table.{suits}

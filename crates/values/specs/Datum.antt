@@ -4,7 +4,7 @@ use Rattle.std.specs.Char.{IsScalar}
 use mir.Syntax.{w8, w16, w32, w64}
 use Rattle.sprintf.specs.declared.PrintfError.TheVariants.{WrongType}
 use Rattle.sprintf.specs.Meaning.{Meaning}
-use Rattle.sprintf.specs.Carried.{u8_meaning, code_meaning, unsigned_meaning, i8_meaning, signed_meaning, char_meaning, word_meaning}
+use Rattle.sprintf.specs.Values.{u8_meaning, code_meaning, unsigned_meaning, i8_meaning, signed_meaning, char_meaning, word_meaning}
 use Rattle.values.specs.declared.kind.Kind.{Kind}
 use Rattle.values.specs.declared.kind.Kind.TheVariants.{U8, U16, U32, U64, Usize, I8, I16, I32, I64, Isize, Word, Char}
 use Rattle.values.specs.declared.word.Word.{Word as WordOf}

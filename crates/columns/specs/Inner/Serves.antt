@@ -1,7 +1,7 @@
 -- Which way of taking serves a field.
 use Rattle.std.specs.Prelude.{◌≡◌, ◌⊎◌, ◌<◌, ℕ, List, Some, true, false}
 use Rattle.std.specs.Str.{chars}
-use Rattle.scan_fmt.specs.Directives.{first, is_blank}
+use Rattle.scan_fmt.specs.Grammar.{first, is_blank}
 use Rattle.sprintf.specs.declared.parser.ConversionSpecifier.{ConversionSpecifier}
 use Rattle.sprintf.specs.declared.parser.ConversionType.{ConversionType}
 use Rattle.sprintf.specs.declared.parser.ConversionType.TheVariants.{OctInt, HexIntLower, HexIntUpper}

@@ -3,7 +3,7 @@ use Rattle.std.specs.Prelude.{◌≡◌, ◌≢◌, ◌⊎◌, ◌<◌, ◌≤�
 use Rattle.std.specs.Str.{byte}
 use Rattle.std.specs.Str.Parse.{AllDigits, digits_value}
 use Rattle.std.specs.List.{AllByRecursion}
-use Rattle.scan_fmt.specs.Directives.{is_blank}
+use Rattle.scan_fmt.specs.Grammar.{is_blank}
 use Rattle.std.specs.Char.{digit_value}
 use Rattle.numerals.specs.Laws.{HasNoLeadingZero, IsOfCase, AllOfCase}
 use Rattle.columns.specs.declared.hexadecimal.Form.{Form}

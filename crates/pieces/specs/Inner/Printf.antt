@@ -6,7 +6,7 @@ use Rattle.sprintf.specs.declared.parser.ConversionType.TheVariants.{DecInt, Str
 use Rattle.sprintf.specs.declared.parser.FormatElement.{FormatElement}
 use Rattle.sprintf.specs.declared.parser.NumericParam.TheVariants.{Literal}
 use Rattle.sprintf.specs.Meaning.{Meaning}
-use Rattle.sprintf.specs.Printed.{field_text, onto, printed, wanted}
+use Rattle.sprintf.specs.Text.{field_text, onto, printed, wanted}
 use Rattle.values.specs.declared.kind.Kind.{Kind}
 use Rattle.values.specs.Datum.{each_of, printf_meaning}
 use Rattle.tokens.specs.declared.Token.{Token}

@@ -2,7 +2,7 @@
 use Rattle.std.specs.Prelude.{◌≡◌, ℕ, List, [], slice_get, Some, Ok}
 use Rattle.values.specs.declared.kind.Kind.{Kind}
 use Rattle.printer.specs.declared.dialect.Dialect.{Dialect}
-use Rattle.printer.specs.Prints.{PrintsBy}
+use Rattle.printer.specs.Text.{PrintsBy}
 use Rattle.tokens.specs.declared.Token.{Token}
 use Rattle.tokens.specs.Tokens.{AreTokens, data_of}
 use Rattle.columns.specs.Fields.{AreFieldsAt}

@@ -5,7 +5,7 @@ use mir.Val.{bits}
 use Rattle.sprintf.specs.declared.parser.ConversionType.{ConversionType}
 use Rattle.sprintf.specs.declared.parser.ConversionType.TheVariants.{DecInt, OctInt, HexIntLower, HexIntUpper, String}
 use Rattle.sprintf.specs.Meaning.{Meaning}
-use Rattle.sprintf.specs.Carried.{unsigned_meaning, signed_meaning, word_meaning}
+use Rattle.sprintf.specs.Values.{unsigned_meaning, signed_meaning, word_meaning}
 use Rattle.values.specs.declared.kind.Kind.{Kind}
 use Rattle.values.specs.declared.kind.Kind.TheVariants as Of
 use Rattle.tokens.specs.declared.Token.{Token}

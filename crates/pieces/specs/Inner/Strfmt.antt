@@ -2,12 +2,12 @@
 use Rattle.std.specs.Prelude.{◌≡◌, ℕ, List, [], ◌∷◌, ◌++◌, false, Option, None, Ok}
 use Rattle.std.specs.Str.{byte}
 use Rattle.numerals.specs.Numeral.{numeral}
-use Rattle.strfmt.specs.Piece.{Piece, IsCut}
+use Rattle.strfmt.specs.Grammar.{Piece, IsCut}
 use Rattle.strfmt.specs.Text.{Meaning, joined, then_next}
 use Rattle.values.specs.declared.kind.Kind.{Kind}
 use Rattle.values.specs.Datum.{each_of}
 use Rattle.values.specs.Templates.{strfmt_meaning}
-use Rattle.printer.specs.Prints.{value_at_key}
+use Rattle.printer.specs.Text.{value_at_key}
 use Rattle.tokens.specs.declared.Token.{Token}
 use Rattle.tokens.specs.Tokens.{AreTokens, data_of}
 use Rattle.pieces.specs.Inner.Layout.{Parts, layout_text}

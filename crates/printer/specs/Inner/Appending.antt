@@ -3,7 +3,7 @@ use Rattle.std.specs.Prelude.{◌≡◌, ◌≢◌, ℕ, List, ◌++◌, Result,
 use Rattle.sprintf.specs.declared.PrintfError.{PrintfError}
 use Rattle.sprintf.specs.declared.PrintfError.TheVariants.{NoMemory as PrintfNoMemory}
 use Rattle.sprintf.specs.declared.parser.FormatElement.{FormatElement}
-use Rattle.sprintf.specs.Printed.{printed}
+use Rattle.sprintf.specs.Text.{printed}
 use Rattle.strfmt.specs.declared.types.FmtError.{FmtError}
 use Rattle.strfmt.specs.declared.types.FmtError.TheVariants.{NoMemory as StrfmtNoMemory}
 use Rattle.strfmt.specs.Fault.{IsFault as IsStrfmtFault, Fault as StrfmtFault}

@@ -3,7 +3,7 @@ use Rattle.std.specs.Prelude.{◌≡◌, ℕ, List, map, IsUtf8, string_bytes}
 use Rattle.sprintf.specs.Grammar.{IsFormat}
 use Rattle.formatx.specs.Scene.{named_position}
 use Rattle.formatx.specs.declared.value.Name.{Name}
-use Rattle.printer.specs.Prints.{named_from}
+use Rattle.printer.specs.Text.{named_from}
 use Rattle.printer.specs.declared.dialect.Dialect.{Dialect}
 use Rattle.printer.specs.declared.dialect.Dialect.TheVariants.{Printf, Strfmt, Formatx}
 use Rattle.printer.specs.declared.printer.Parsed.{Parsed}

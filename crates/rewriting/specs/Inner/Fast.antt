@@ -9,7 +9,7 @@ use Rattle.row_format.specs.Columns.{Columns, columns_of}
 use Rattle.row_format.specs.Laws.{IsText}
 use Rattle.row_format.specs.Row.{IsRow}
 use Rattle.printer.specs.declared.dialect.Dialect.{Dialect}
-use Rattle.printer.specs.Prints.{Printing, Prints}
+use Rattle.printer.specs.Text.{Printing, Prints}
 
 -- The format and the kinds of the rows, and the template that prints their values.
 pub record FastWay : Type 0 where

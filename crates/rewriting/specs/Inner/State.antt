@@ -9,7 +9,7 @@ use Rattle.row_format.specs.Plannable.{IsPlannable}
 use Rattle.row_format.specs.Planned.{planned_text}
 use Rattle.row_format.specs.Row.{IsRow}
 use Rattle.row_plan.specs.Plan.{Planned}
-use Rattle.printer.specs.Prints.{Printing}
+use Rattle.printer.specs.Text.{Printing}
 use Rattle.header_lines.specs.declared.cause.LineCause.{LineCause}
 use Rattle.header_lines.specs.declared.cause.LineCause.TheVariants.{NotARow}
 use Rattle.header_lines.specs.declared.heading.Version.{Version}

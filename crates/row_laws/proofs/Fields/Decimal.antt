@@ -5,9 +5,9 @@ use Rattle.std.specs.Int.{Width}
 use Rattle.std.specs.Str.Parse.{digits_value, without_leading_plus}
 use Rattle.numerals.specs.Numeral.{numeral}
 use Rattle.sprintf.specs.declared.parser.ConversionType.TheVariants.{DecInt}
-use Rattle.scan_fmt.specs.Directives.{Number, Decimal}
+use Rattle.scan_fmt.specs.Grammar.{Number, Decimal}
 use Rattle.scan_fmt.specs.Scanned.{IsSigned}
-use Rattle.scan_fmt.specs.Readings.{ReadsUnsigned, ReadsSigned}
+use Rattle.scan_fmt.specs.Values.{ReadsUnsigned, ReadsSigned}
 use Rattle.values.specs.declared.kind.Kind.{Kind}
 use Rattle.values.specs.Datum.{natural, integer}
 use Rattle.row_format.specs.Plannable.{by_bits}

@@ -7,7 +7,7 @@ use Rattle.std.proofs.lemmas.Bool.Decides.{nat_tests}
 use Rattle.numerals.specs.Numeral.{numeral, IsDigitText, text_value}
 use Rattle.numerals.proofs.Digits.{AllBelow-from_digits, digits_from-AllBelow, digits_value-text_value}
 use Rattle.numerals.proofs.Reading.{numeral_reads}
-use Rattle.scan_fmt.specs.Directives.{is_blank}
+use Rattle.scan_fmt.specs.Grammar.{is_blank}
 use Rattle.scan_fmt.specs.Scanned.{IsSigned, IsPrefixed}
 use Rattle.row_laws.proofs.Fields.Spaces.{AllPlain}
 

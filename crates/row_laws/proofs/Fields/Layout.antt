@@ -3,7 +3,7 @@ use Rattle.std.proofs.Common.{◌≡◌, ◌⊎◌, ◌<◌, ◌≤◌, ◌+◌,
 use Rattle.std.specs.Str.Parse.{AllDigits}
 use Rattle.std.proofs.lemmas.List.{length-replicate}
 use Rattle.sprintf.specs.declared.parser.ConversionType.{ConversionType}
-use Rattle.scan_fmt.specs.Directives.{Shape}
+use Rattle.scan_fmt.specs.Grammar.{Shape}
 use Rattle.scan_fmt.specs.Scanned.{MayTake, IsLongest, token_text}
 use Rattle.values.specs.declared.kind.Kind.{Kind}
 use Rattle.values.specs.Datum.{Datum}

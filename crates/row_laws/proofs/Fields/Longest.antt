@@ -3,7 +3,7 @@ use Rattle.std.proofs.Common.{◌≡◌, ◌⊎◌, ◌<◌, ◌≤◌, ℕ, Boo
 use Rattle.std.specs.List.{AllByRecursion}
 use Rattle.std.specs.Char.{digit_value}
 use Rattle.std.specs.Str.Parse.{AllDigits}
-use Rattle.scan_fmt.specs.Directives.{first, Run, Characters, Number, Decimal, Hexadecimal}
+use Rattle.scan_fmt.specs.Grammar.{first, Run, Characters, Number, Decimal, Hexadecimal}
 use Rattle.scan_fmt.specs.Scanned.{IsSigned, IsPrefixed, Optionally, Suits, MayTake, IsLongest}
 use Rattle.row_laws.specs.Inner.Directives.{limit_when}
 

@@ -3,7 +3,7 @@ use Rattle.std.proofs.Common.{◌≡◌, ◌<◌, ◌≤◌, ◌+◌, ◌-◌, �
 use Rattle.std.specs.Str.Parse.{without_leading_plus}
 use Rattle.numerals.specs.Numeral.{numeral, IsDigitText, text_value}
 use Rattle.sprintf.specs.declared.parser.ConversionType.TheVariants.{OctInt}
-use Rattle.scan_fmt.specs.Directives.{Number, Decimal}
+use Rattle.scan_fmt.specs.Grammar.{Number, Decimal}
 use Rattle.scan_fmt.specs.Scanned.{IsSigned}
 use Rattle.values.specs.declared.kind.Kind.{Kind}
 use Rattle.values.specs.Datum.{Datum}

@@ -12,7 +12,7 @@ use Rattle.sprintf.specs.declared.parser.NumericParam.{NumericParam}
 use Rattle.sprintf.specs.declared.parser.NumericParam.TheVariants.{Literal, FromArgument}
 use Rattle.sprintf.specs.Field.{filled_number, filled_word, number_of, with_number, number_text, unsigned_text, signed_text, character_text, word_text, prefix_of, digits_of, sign_of, cut_to}
 use Rattle.sprintf.specs.Meaning.{by_conversion}
-use Rattle.sprintf.specs.Carried.{character_where, signed_character}
+use Rattle.sprintf.specs.Values.{character_where, signed_character}
 use Rattle.values.specs.declared.kind.Kind.{Kind}
 use Rattle.values.specs.declared.kind.Kind.TheVariants.{U8, U16, U32, U64, Usize, I8, I16, I32, I64, Isize, Word, Char}
 use Rattle.values.specs.Datum.{natural, integer, word, character, IsOfKind}

@@ -2,7 +2,7 @@
 use Rattle.std.proofs.Common.{◌≡◌, ◌⊎◌, ◌<◌, ℕ, zero, suc, Bool, true, List, [], ◌∷◌, ◌++◌, length, replicate, Option, sym, ap, subst, refl, inl, inr, ◌∙◌, arith, chars, IsUtf8, encode_utf8_all}
 use Rattle.std.proofs.lemmas.Str.{chars-append, encodes-chars}
 use Rattle.sprintf.specs.declared.parser.ConversionType.{ConversionType}
-use Rattle.scan_fmt.specs.Directives.{first, Shape}
+use Rattle.scan_fmt.specs.Grammar.{first, Shape}
 use Rattle.scan_fmt.specs.Scanned.{MayTake, IsLongest, token_text}
 use Rattle.values.specs.declared.kind.Kind.{Kind}
 use Rattle.values.specs.Datum.{Datum}

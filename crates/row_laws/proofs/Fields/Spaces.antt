@@ -3,7 +3,7 @@ use Rattle.std.proofs.Common.{◌≡◌, ◌≢◌, ◌<◌, ◌==◌, ℕ, zero
 use Rattle.std.specs.List.{AllByRecursion, list_all}
 use Rattle.std.specs.Str.{NonePass}
 use Rattle.std.proofs.lemmas.Str.{chars-append, chars-IsAscii, encodes-chars, IsUtf8-from_ascii, encode_ascii, NoCharPasses-byte}
-use Rattle.scan_fmt.specs.Directives.{is_blank}
+use Rattle.scan_fmt.specs.Grammar.{is_blank}
 use Rattle.row_format.specs.Plannable.{trailing_spaces}
 
 -- no white space

@@ -8,7 +8,7 @@ use Rattle.sprintf.specs.declared.parser.ConversionType.{ConversionType}
 use Rattle.sprintf.specs.declared.parser.ConversionType.TheVariants.{Char, String}
 use Rattle.sprintf.specs.Field.{cut_to}
 use Rattle.sprintf.proofs.Cut.{cut_is}
-use Rattle.scan_fmt.specs.Directives.{Until, Solid}
+use Rattle.scan_fmt.specs.Grammar.{Until, Solid}
 use Rattle.scan_fmt.specs.Scanned.{Suits, MayTake, IsLongest}
 use Rattle.values.specs.declared.kind.Kind.{Kind}
 use Rattle.values.specs.Datum.{Datum, word, character}

@@ -4,7 +4,7 @@ use Rattle.std.specs.List.{AllByRecursion}
 use Rattle.std.specs.Str.{chars, IsUtf8}
 use Rattle.sprintf.specs.declared.parser.ConversionType.{ConversionType}
 use Rattle.sprintf.specs.declared.parser.ConversionType.TheVariants.{DecInt, OctInt, HexIntLower, HexIntUpper}
-use Rattle.scan_fmt.specs.Directives.{is_blank, Directive, Exactly, Field, Shape, Characters, Number, Decimal, Hexadecimal, Until, Solid}
+use Rattle.scan_fmt.specs.Grammar.{is_blank, Directive, Exactly, Field, Shape, Characters, Number, Decimal, Hexadecimal, Until, Solid}
 use Rattle.scan_fmt.specs.Scanned.{IsLongest, MayTake, token_text}
 use Rattle.values.specs.declared.kind.Kind.{Kind}
 use Rattle.values.specs.Datum.{Datum}

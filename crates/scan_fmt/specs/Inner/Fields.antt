@@ -4,7 +4,7 @@ use Rattle.std.specs.Str.{byte}
 use Rattle.std.specs.Str.Parse.{AllDigits}
 use Rattle.scan_fmt.specs.Expressions.{IsDelimited, expression}
 use Rattle.scan_fmt.specs.Sets.{IsListing}
-use Rattle.scan_fmt.specs.Directives.{Until, Solid, Among, Shape, Characters, Number, Directive, Field, Expression, AtEnd, star, caret, first, letter, limit_of}
+use Rattle.scan_fmt.specs.Grammar.{Until, Solid, Among, Shape, Characters, Number, Directive, Field, Expression, AtEnd, star, caret, first, letter, limit_of}
 
 -- what a field asks for: something of a shape, what a pattern finds, or that the input has ended
 pub data Content : Type 0 where

@@ -13,7 +13,7 @@ use Rattle.scan_fmt.specs.declared.directive.Directive.{Directive as DirectivePa
 use Rattle.scan_fmt.specs.declared.directive.Directive.TheVariants.{Literal, Field as FieldPart, Expression as ExpressionPart, End}
 use Rattle.scan_fmt.specs.declared.field.Pass.{Pass}
 use Rattle.scan_fmt.specs.declared.field.Pass.TheVariants.{Mismatch, Passed, Taken}
-use Rattle.scan_fmt.specs.Directives.{Run, Until, Solid, Among, Notation, Decimal, Hexadecimal, Float, Shape, Characters, Number, Directive, Exactly, Field, Expression, AtEnd}
+use Rattle.scan_fmt.specs.Grammar.{Run, Until, Solid, Among, Notation, Decimal, Hexadecimal, Float, Shape, Characters, Number, Directive, Exactly, Field, Expression, AtEnd}
 use Rattle.scan_fmt.specs.declared.slices.Piece.{Piece}
 use Rattle.scan_fmt.specs.Slices.{ArePieces, AreInOrder}
 use Rattle.scan_fmt.specs.Scanned.{Outcome, Passes, Refuses, Takes, tokens_of}

@@ -1,7 +1,7 @@
 use Rattle.std.proofs.Common.{◌≡◌, ℕ, ◌+◌, List, ◌++◌, drop, map, Result, Ok, Err, refl, ap, sym, ◌∙◌, append_assoc, arith, string_bytes}
 use Rattle.std.proofs.lemmas.Grind.{common_steps}
 use Rattle.sprintf.specs.declared.PrintfError.{PrintfError}
-use Rattle.sprintf.specs.Printed.{onto, printed}
+use Rattle.sprintf.specs.Text.{onto, printed}
 use Rattle.sprintf.proofs.print_elements.Goals as goal
 use Rattle.sprintf.proofs.print_elements.Goals.{in-Verbatim+in_ok-push_str-in-Verbatim, in-Format+in_ok-rest-in-Format}
 

@@ -1,5 +1,5 @@
 use Rattle.std.proofs.Common.{◌≡◌, ℕ, List, ◌++◌, string_bytes, drop, map}
-use Rattle.sprintf.specs.Printed.{onto, printed}
+use Rattle.sprintf.specs.Text.{onto, printed}
 use Rattle.sprintf.proofs.print_elements.Given as goal
 
 abbrev pub invariant-loop-element : goal.invariant-loop-element

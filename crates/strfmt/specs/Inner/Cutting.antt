@@ -6,7 +6,7 @@ use Rattle.strfmt.specs.declared.cutting.Brace.{Brace}
 use Rattle.strfmt.specs.declared.cutting.Brace.TheVariants.{Open, Close}
 use Rattle.strfmt.specs.declared.cutting.Next.{Next}
 use Rattle.strfmt.specs.declared.cutting.Next.TheVariants.{End, Escape, Pattern, Wrong}
-use Rattle.strfmt.specs.Piece.{IsBrace, HasNoBrace, Break, BeginsWith, BeginsWithPattern, cause_of}
+use Rattle.strfmt.specs.Grammar.{IsBrace, HasNoBrace, Break, BeginsWith, BeginsWithPattern, cause_of}
 
 -- It is empty, or a brace stands in front.
 abbrev pub BeginsWithBrace : List ℕ → Type 0

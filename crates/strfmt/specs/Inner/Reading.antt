@@ -3,7 +3,7 @@ use Rattle.std.specs.Prelude.{◌≡◌, ◌⊎◌, ℕ, ◌-◌, ◌^◌, min, 
 use Rattle.strfmt.specs.declared.types.FmtError.{FmtError}
 use Rattle.strfmt.specs.declared.types.FmtError.TheVariants.{NoMemory}
 use Rattle.strfmt.specs.Fault.{Fault, IsFault}
-use Rattle.strfmt.specs.Parts.{Parts}
+use Rattle.strfmt.specs.Grammar.Parts.{Parts}
 
 -- The error is this fault, or there was no memory for its message.
 abbrev pub IsFaultOrMemory : Fault → FmtError → Type 0

@@ -10,8 +10,8 @@ use Rattle.strfmt.specs.declared.template.Segment.TheVariants.{Plain, Escape, Pa
 use Rattle.strfmt.specs.declared.template.Found.{Found}
 use Rattle.strfmt.specs.declared.template.Found.TheVariants as Of
 use Rattle.strfmt.specs.Spec.{View}
-use Rattle.strfmt.specs.Pattern.{IsRead}
-use Rattle.strfmt.specs.Piece.{Piece, ordinary, escape, pattern, Break, cause_of, IsPiece, IsCut}
+use Rattle.strfmt.specs.Grammar.Pattern.{IsRead}
+use Rattle.strfmt.specs.Grammar.{Piece, ordinary, escape, pattern, Break, cause_of, IsPiece, IsCut}
 use Rattle.strfmt.specs.Inner.Cutting.{IsPlainFront, StopsBy, brace_byte}
 use Rattle.strfmt.specs.Walk.{Walked, Walks, blank}
 

@@ -2,7 +2,7 @@ use Rattle.std.proofs.Common.{◌∙◌, List, ℕ, map, sym, ap, subst, IfSome}
 use Rattle.values.specs.declared.word.Word.{Word}
 use Rattle.values.specs.Datum.{word_text}
 use Rattle.printer.specs.declared.dialect.Dialect.{Dialect}
-use Rattle.printer.specs.Prints.{Printing}
+use Rattle.printer.specs.Text.{Printing}
 use Rattle.rewriting.specs.Inner.State.{IsPlanFor, IsWayTo}
 use Rattle.rewriting.proofs.RowLemmas.{way_found}
 use Rattle.rewriting.proofs.rewrite.read_header.Goals as goal

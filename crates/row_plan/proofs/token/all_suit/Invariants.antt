@@ -3,7 +3,7 @@ use denote.Shadow.{shadow}
 use Rattle.std.proofs.Common.{◌↔◌, length}
 use Rattle.std.specs.List.{AllByRecursion}
 use Rattle.std.specs.Str.{chars}
-use Rattle.scan_fmt.specs.Directives.{Until}
+use Rattle.scan_fmt.specs.Grammar.{Until}
 use Rattle.scan_fmt.specs.Scanned.{Suits}
 use Rattle.row_plan.proofs.token.all_suit.Given as goal
 

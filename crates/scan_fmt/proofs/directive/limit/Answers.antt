@@ -2,7 +2,7 @@ use Rattle.std.proofs.Common.{◌≡◌, ◌∙◌, ap, sym, List, ℕ, take, dr
 use Rattle.std.specs.Str.{chars}
 use Rattle.std.specs.Str.Parse.{AllDigits}
 use Rattle.scan_fmt.specs.Scanned.{IsLongest}
-use Rattle.scan_fmt.specs.Directives.{limit_of}
+use Rattle.scan_fmt.specs.Grammar.{limit_of}
 use Rattle.scan_fmt.proofs.Characters.{ascii_cut, ascii_longest, ascii_same}
 use Rattle.scan_fmt.proofs.Digits.{digits_ascii}
 use Rattle.scan_fmt.proofs.directive.limit.Goals as goal

@@ -2,7 +2,7 @@ use denote.Text.{Utf8}
 use denote.Shadow.{shadow}
 use Rattle.std.proofs.Common.{◌≡◌, length}
 use Rattle.std.specs.Str.{chars}
-use Rattle.scan_fmt.specs.Directives.{after_blanks}
+use Rattle.scan_fmt.specs.Grammar.{after_blanks}
 use Rattle.scan_fmt.proofs.text.skip_blanks.Given as goal
 
 -- what was passed is white space

@@ -1,5 +1,5 @@
 use Rattle.std.proofs.Common.{refl}
-use Rattle.strfmt.specs.Parts.{Parts as WrittenParts}
+use Rattle.strfmt.specs.Grammar.Parts.{Parts as WrittenParts}
 use Rattle.strfmt.proofs.parts.parse.Goals as goal
 
 pub returns : goal.returns

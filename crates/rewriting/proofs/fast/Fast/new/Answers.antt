@@ -3,7 +3,7 @@ use Rattle.values.specs.declared.kind.Kind.{Kind}
 use Rattle.row_format.specs.Columns.{Columns}
 use Rattle.row_format.specs.Laws.{IsText}
 use Rattle.columns.specs.Rows.{RowColumns}
-use Rattle.printer.specs.Prints.{Printing}
+use Rattle.printer.specs.Text.{Printing}
 use Rattle.pieces.specs.Template.{Template}
 use Rattle.rewriting.specs.Inner.Fast.{IsRowFormatOf}
 use Rattle.rewriting.proofs.fast.Fast.new.Goals as goal

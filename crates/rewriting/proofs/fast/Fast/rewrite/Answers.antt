@@ -8,7 +8,7 @@ use Rattle.row_format.specs.Laws.{IsText}
 use Rattle.row_format.specs.Row.{IsRow}
 use Rattle.columns.specs.Fields.{AreFieldsAt}
 use Rattle.columns.specs.Rows.{RowColumns}
-use Rattle.printer.specs.Prints.{Prints}
+use Rattle.printer.specs.Text.{Prints}
 use Rattle.pieces.specs.Template.{Template}
 use Rattle.rewriting.specs.Inner.Fast.{FastWay, IsWritten}
 use Rattle.rewriting.proofs.RowLemmas.{ended}

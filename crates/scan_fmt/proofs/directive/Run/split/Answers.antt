@@ -2,7 +2,7 @@ use Rattle.std.proofs.Common.{◌≡◌, Some, None, sym, ap, ◌∙◌, subst, 
 use Rattle.std.specs.Str.{chars}
 use Rattle.std.specs.List.{AllByRecursion}
 use Rattle.std.proofs.lemmas.Str.{IsUtf8-past_char}
-use Rattle.scan_fmt.specs.Directives.{first}
+use Rattle.scan_fmt.specs.Grammar.{first}
 use Rattle.scan_fmt.specs.Scanned.{Suits}
 use Rattle.scan_fmt.specs.Inner.Parts.{run_of}
 use Rattle.scan_fmt.proofs.Characters.{passed_none, passed_more, passed_is, run_end, each_more}

@@ -1,7 +1,7 @@
 use Rattle.std.proofs.Common.{◌≡◌, ◌<◌, List, [], ◌∷◌, ◌++◌, length, map, sym, ap, subst, refl, ◌∙◌, arith, rules}
 use Rattle.std.specs.Str.{chars}
 use Rattle.std.proofs.lemmas.List.{map-append}
-use Rattle.scan_fmt.specs.Directives.{Directive, after_blanks}
+use Rattle.scan_fmt.specs.Grammar.{Directive, after_blanks}
 use Rattle.scan_fmt.specs.Inner.Parts.{directive_of}
 use Rattle.scan_fmt.proofs.Cutting.{spells_longer, blanks_shorter}
 use Rattle.scan_fmt.proofs.Taking.{CutsOn, cuts_more, cuts_done}

@@ -4,7 +4,7 @@ use Rattle.numerals.specs.Numeral.{numeral}
 use Rattle.sprintf.specs.declared.PrintfError.{PrintfError}
 use Rattle.sprintf.specs.declared.parser.FormatElement.{FormatElement}
 use Rattle.sprintf.specs.Grammar.{IsFormat, IsNoFormat}
-use Rattle.sprintf.specs.Printed.{PrintsFormat, RefusesFormat}
+use Rattle.sprintf.specs.Text.{PrintsFormat, RefusesFormat}
 use Rattle.strfmt.specs.Fault.{Outcome}
 use Rattle.strfmt.specs.Text.{Prints as StrfmtPrints}
 use Rattle.formatx.specs.Fault.{Fault}

@@ -11,7 +11,7 @@ use Rattle.strfmt.specs.declared.types.FmtError.{FmtError}
 use Rattle.strfmt.specs.declared.types.FmtError.TheVariants.{NoMemory}
 use Rattle.strfmt.specs.Fault.{Check, first_failure, fault_of, IsFault}
 use Rattle.strfmt.specs.Spec.{Spec, View}
-use Rattle.strfmt.specs.Parts.{Parts, IsWritten}
+use Rattle.strfmt.specs.Grammar.Parts.{Parts, IsWritten}
 
 -- A width or a precision may be at most 2 ^ 63 - 1.
 abbrev pub is_too_large : Option ℕ → Bool

@@ -3,7 +3,7 @@ use Rattle.std.specs.Prelude.{◌≡◌, ◌≤◌, ℕ, List, Option, Result, O
 use Rattle.strfmt.specs.declared.cause.Cause.{Cause}
 use Rattle.strfmt.specs.Fault.{Outcome}
 use Rattle.strfmt.specs.Field.{Integer, text_field, integer_field}
-use Rattle.strfmt.specs.Pattern.{IsRead}
+use Rattle.strfmt.specs.Grammar.Pattern.{IsRead}
 use Rattle.strfmt.specs.Spec.{Spec, View, width_of}
 use Rattle.strfmt.specs.Text.{Meaning, Prints}
 

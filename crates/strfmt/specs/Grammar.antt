@@ -1,10 +1,12 @@
 -- How a text is cut. The braces are ASCII, so no byte of another character is one.
+pub mod Parts
+pub mod Pattern
 use Rattle.std.specs.Prelude.{◌≡◌, ◌≢◌, ◌⊎◌, ℕ, List, [], ◌∷◌, ◌++◌, ⊤, Option, Some, None, Ok, Err, slice_index}
 use Rattle.std.specs.Str.{byte}
 use Rattle.strfmt.specs.declared.cause.Cause.{Cause}
 use Rattle.strfmt.specs.declared.cause.Cause.TheVariants.{LoneBrace, NestedBrace, NoClosingBrace}
 use Rattle.strfmt.specs.Spec.{View}
-use Rattle.strfmt.specs.Pattern.{IsRead}
+use Rattle.strfmt.specs.Grammar.Pattern.{IsRead}
 
 -- A piece is a byte of an ordinary character, a doubled brace, or a pattern that reads as a formatter.
 pub data Piece : Type 0 where
