@@ -5,7 +5,7 @@ ghost use Rattle.whiteread.specs.Reading.Tuples.{around};
 ghost use Rattle.whiteread.specs.Reading.Adapted.{one_skipped, all_skipped, counted, to_zero};
 ghost use Rattle.whiteread.specs.Inner.ReadingProofs.{around_front, one_skipped_front, all_skipped_front, counted_front, to_zero_front, eats_word};
 
-use crate::stream::{Eats, Error, FromStream, IsZero, Result, StrStream, read_later};
+use crate::stream::{Eats, FromStream, IsZero, Result, StrStream, read_later};
 use std::alloc::Global;
 
 /// Passes one word, if there is one.
@@ -64,9 +64,7 @@ impl<T: Eats> FromStream for Lengthed<T> {
         let mut values = Vec::new(alloc);
         'values: while values.len() < count {
             let value = read_later::<T, I>(alloc, it)?;
-            if values.push(value).is_err() {
-                return Err(Error::NoMemory);
-            }
+            values.push(value)?;
         }
         Ok(Lengthed(values))
     }
@@ -101,9 +99,7 @@ impl<T: Eats + IsZero> FromStream for Zeroed<T> {
         let mut values = Vec::new(alloc);
         let mut value = T::read(alloc, it)?;
         'values: while !value.is_zero() {
-            if values.push(value).is_err() {
-                return Err(Error::NoMemory);
-            }
+            values.push(value)?;
             value = read_later::<T, I>(alloc, it)?;
         }
         Ok(Zeroed(values))

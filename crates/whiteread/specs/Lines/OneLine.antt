@@ -38,6 +38,13 @@ pub record PassesLongest {B : Type 0} (supply : Supply B) (old new : B) : Type 0
   pub no_feed : HasNoFeed got
   pub full : length got ≡ longest_line
 
+-- The line's first bytes were given, or all of it with the line feed that ends it, and no byte after that.
+pub record TakesFront {B : Type 0} (supply : Supply B) (old new : B) : Type 0 where
+  pub got : List ℕ
+  pub gave : Gave supply old new got
+  pub of_one_line : HasNoFeed got ⊎ IsWhole got
+  pub few : length got ≤ longest_line
+
 -- No line was taken: a read failed, the line is too long, or memory is wanting; the bytes that were given are dropped.
 abbrev pub LineRefused : {B : Type 0} → Supply B → B → Error → B → Type 0
 LineRefused supply old (TooShort progress) new = ⊥
@@ -47,7 +54,7 @@ LineRefused supply old (IoError ReadFault) new = ((got : List ℕ) × Gave suppl
 LineRefused supply old (IoError NotUtf8) new = ⊥
 LineRefused supply old (IoError TooLong) new = PassesLongest supply old new × (supply.faults new ≡ supply.faults old)
 LineRefused supply old (IoError CannotOpen) new = ⊥
-LineRefused supply old NoMemory new = ((got : List ℕ) × Gave supply old new got) × (supply.faults new ≡ supply.faults old)
+LineRefused supply old NoMemory new = TakesFront supply old new × (supply.faults new ≡ supply.faults old)
 
 -- One line is taken, or refused.
 abbrev pub TakesOneLine : {B : Type 0} → Supply B → B → Result (Vec ℕ Global) Error → B → Type 0

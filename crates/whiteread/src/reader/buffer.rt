@@ -1,5 +1,5 @@
 // The current line of a reader, and the bytes that wait for the next one.
-ghost use Rattle.std.specs.Prelude.{◌≡◌, ◌≤◌, ◌<◌, ◌+◌, ◌-◌, ◌⊎◌, ◌↔◌, ◌++◌, [], List, ℕ, true, length, take, drop, get_or, slice_range, MatchOption, MatchResult, MatchBool, IfOk, IfErr, OnOk, IsErrOf, IsTrue, IsUtf8, IfSome};
+ghost use Rattle.std.specs.Prelude.{◌≡◌, ◌≤◌, ◌<◌, ◌+◌, ◌-◌, ◌⊎◌, ◌↔◌, ◌++◌, [], List, ℕ, true, length, take, drop, get_or, slice_range, MatchOption, MatchResult, MatchBool, IfOk, IfErr, OnOk, IsErrOf, IsTrue, IsUtf8};
 ghost use Rattle.std.specs.Str.{is_utf8};
 ghost use Rattle.whiteread.specs.Lines.{HasNoFeed, IsWhole, IsFirstLine, line_feed};
 ghost use Rattle.std.specs.Io.KnownBytes.{IsAtEnd};
@@ -192,9 +192,7 @@ impl Buffer {
         ensures memory { IsErrOf result Error.NoMemory → source.new ≡ source.old }
         ensures same_reference { S.supply.reference source.new ≡ S.supply.reference source.old }
     {
-        let Some(room) = self.make_room(ask) else {
-            return Err(Error::NoMemory);
-        };
+        let room = self.make_room(ask)?;
         match read_between(source, &mut self.bytes, self.end, room) {
             Ok(count) => {
                 self.accept(count);
@@ -205,18 +203,19 @@ impl Buffer {
     }
 
     /// Moves the waiting bytes to the front, and sees that so many bytes more have room. It answers where that room
-    /// ends; None where memory is wanting. The current line is dropped.
-    fn make_room(&mut self, ask: usize) -> Option<usize>
+    /// ends. The current line is dropped.
+    fn make_room(&mut self, ask: usize) -> Result<usize>
         ensures line { buffer_line self.new ≡ [] }
         ensures waiting { buffer_waiting self.new ≡ buffer_waiting self.old }
-        ensures room { IfSome result (λ room. (room ≡ self.new.end + ask) × (room ≤ length self.new.bytes.items)) }
+        ensures room { IfOk result (λ room. (room ≡ self.new.end + ask) × (room ≤ length self.new.bytes.items)) }
+        ensures memory { IfErr result (λ why. why ≡ Error.NoMemory) }
     {
         self.shift();
-        let room = self.end.checked_add(ask)?;
-        if self.bytes.len() < room && self.bytes.resize(room, 0).is_err() {
-            return None;
+        let room = self.end.checked_add(ask).ok_or(Error::NoMemory)?;
+        if self.bytes.len() < room {
+            self.bytes.resize(room, 0)?;
         }
-        Some(room)
+        Ok(room)
     }
 
     /// Moves the waiting bytes to the front of the buffer, and drops the current line.

@@ -69,11 +69,7 @@ impl Error {
                 place,
                 rendered: Some(text),
             },
-            Err(_) => Error {
-                error: stream::Error::NoMemory,
-                place: None,
-                rendered: None,
-            },
+            Err(why) => Error::from(why),
         }
     }
 
@@ -143,6 +139,16 @@ impl Error {
         ensures { IsTrue result ↔ ((fault : IoFault) × (self.now.error ≡ IoError fault)) }
     {
         self.error.is_io_error()
+    }
+}
+
+impl From<AllocError> for Error {
+    ghost use Rattle.whiteread.specs.declared.stream.error.Error.TheVariants.{NoMemory};
+
+    ghost from_gives = { λ _ error. error ≡ unplaced NoMemory };
+
+    fn from(_: AllocError) -> Error {
+        Error::without_place(stream::Error::NoMemory)
     }
 }
 

@@ -37,11 +37,7 @@ impl<T: Eats> FromStream for Vec<T> {
         let mut values = Vec::new(alloc);
         'values: loop {
             match T::read(alloc, it) {
-                Ok(value) => {
-                    if values.push(value).is_err() {
-                        return Err(Error::NoMemory);
-                    }
-                }
+                Ok(value) => values.push(value)?,
                 Err(Error::TooShort(Progress::Nothing)) => return Ok(values),
                 Err(why) => return Err(why),
             }

@@ -3,6 +3,7 @@ ghost use Rattle.std.specs.Prelude.{◌≡◌, ◌↔◌, IsTrue, Some};
 ghost use Rattle.whiteread.specs.declared.stream.error.Progress.{Progress};
 ghost use Rattle.whiteread.specs.declared.stream.error.IoFault.{IoFault};
 
+use std::alloc::{AllocError, AllocFailed};
 use std::fmt;
 
 /// How much of a value was read before the words ended.
@@ -43,6 +44,26 @@ pub enum Error {
 }
 
 pub type Result<T> = std::result::Result<T, Error>;
+
+impl From<AllocError> for Error {
+    ghost use Rattle.whiteread.specs.declared.stream.error.Error.TheVariants.{NoMemory};
+
+    ghost from_gives = { λ _ error. error ≡ NoMemory };
+
+    fn from(_: AllocError) -> Error {
+        Error::NoMemory
+    }
+}
+
+impl<T: Drop> From<AllocFailed<T>> for Error {
+    ghost use Rattle.whiteread.specs.declared.stream.error.Error.TheVariants.{NoMemory};
+
+    ghost from_gives = { λ _ error. error ≡ NoMemory };
+
+    fn from(_: AllocFailed<T>) -> Error {
+        Error::NoMemory
+    }
+}
 
 impl Error {
     pub fn is_too_short(&self) -> bool

@@ -324,10 +324,7 @@ impl FromStream for String {
         let Some(word) = it.next()? else {
             return Err(Error::TooShort(Progress::Nothing));
         };
-        match String::from_str(alloc, word) {
-            Ok(text) => Ok(text),
-            Err(_) => Err(Error::NoMemory),
-        }
+        Ok(String::from_str(alloc, word)?)
     }
 }
 

@@ -21,8 +21,8 @@ returns-in_err-value g c =
     let reached = reached_then _ _ _ _ (reached_read _ _ _ _ _ c.read.ensures) (reached_each _ _ _ _ _ _ _ _ c.values.invariant.each c.read_later.ensures) in
     search rules
 
-pub returns-then-is_err : goal.returns-then-is_err
-returns-then-is_err g c =
+pub returns-in_err-push : goal.returns-in_err-push
+returns-in_err-push g c =
     let reached = reached_then _ _ _ _ (reached_read _ _ _ _ _ c.read.ensures) (reached_each _ _ _ _ _ _ _ _ c.values.invariant.each c.read_later.ensures) in
     search rules
 

@@ -39,7 +39,7 @@ returns-in-Ok-clause-bytes g c =
     let same : zs ≡ ys = written xs ys old.bytes.len (omega (arith, old.bytes.ok.0)) size in
     let front : take old.end zs ≡ take old.end xs = ap (take old.end) same ∙ c.read_between.ensures.front ∙ ap (take old.end) c.deref_mut.ensures.value in
     let is : slice_range zs old.start old.end ≡ slice_range xs old.start old.end = slice_same zs xs old.start old.end old.end front (omega arith) in
-    let room = c.in-Some.ensures.room in
+    let room = c.in_ok-room.ensures.room in
     let within = c.in-Ok.ensures.got.1 in
     let long : length got ≡ count = slice_len ys old.end (old.end + count) (omega (arith, within, room.1, size)) ∙ omega arith in (
       got,

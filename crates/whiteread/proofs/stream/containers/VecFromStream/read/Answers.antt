@@ -17,7 +17,7 @@ returns-in-Err-TooShort-Nothing g c =
     let reached = reached_each _ _ _ _ _ _ _ _ c.values.invariant c.read.ensures in
     search rules
 
-pub returns-then-is_err : goal.returns-then-is_err
-returns-then-is_err g c =
+pub returns-in_err-push-in-Ok : goal.returns-in_err-push-in-Ok
+returns-in_err-push-in-Ok g c =
     let reached = reached_each _ _ _ _ _ _ _ _ c.values.invariant c.read.ensures in
     search rules
