@@ -10,24 +10,26 @@ use Rattle.whiteread.specs.declared.reader.Reader.{Reader}
 use Rattle.line_job.specs.declared.stop.Stop.{Stop}
 use Rattle.line_job.specs.declared.stop.Stop.TheVariants.{Line, TooLong, ReadFault, WriteFault, NoMemory}
 use Rattle.line_job.specs.Stop.{IsOfLines}
-use Rattle.line_job.specs.Rules.{Rules, RefusesLine, AreKept, AreRefused}
-use Rattle.line_job.specs.Reached.{reaches_end, ended_lines, reached_lines}
+use Rattle.line_job.specs.Rules.{Rules, RefusesLine, AreKept, WereKept, AreRefused}
+use Rattle.line_job.specs.Reached.{reaches_end, one_read, ended_lines, reached_lines}
 use Rattle.line_job.specs.Inner.NextLine.{Took, Ended, Failed, Passed, Quiet}
 use Rattle.line_job.specs.Inner.Goes.{Ends, View, place_of, view_of, left, GrewAll, Grew, GrewLines, GrewSome, GrewRefused, Goes}
-use Rattle.line_job.proofs.LineLemmas.{reached_first, reached_all, reaches_all, ended_none}
+use Rattle.line_job.proofs.LineLemmas.{first_some, reached_first, reached_all, reaches_all, ended_none, ended_short, ended_nil}
 use Rattle.line_job.proofs.EndLemmas.{no_refusal, line_is, waits_is, passes_is, none_is, any_is, grew_nil, some_front}
-use Rattle.line_job.proofs.GoesLemmas.{counts}
+use Rattle.line_job.proofs.GoesLemmas.{counts, none_kept}
 
 -- a refusal of a line, or of the end: what differs is what was taken and refused
 ends_refused : {B K Stage Why : Type 0} (ends : Ends B K) (rules : Rules Stage Why) (before : ℕ) (stage : Stage) (owed : List ℕ) (old : View B) (source' : B) (output output' : K) (stop : Stop Why)
     → IsOfLines stop → IfSome (ends.supply.rest old.source) (λ bytes. GrewRefused rules (place_of before stage owed) (ends.held output) (ends.held output') stop (left old) (old.waiting ++ bytes))
+    → IfSome (ends.supply.rest old.source) (λ bytes. WereKept rules before stage (ended_lines (length old.waiting + (ends.supply.given source' - ends.supply.given old.source) - one_read) (old.waiting ++ bytes)))
     → ends.supply.given source' ≤ ends.supply.given old.source + old.room → (got : List ℕ) × Consumes (ends.supply.rest old.source) (ends.supply.rest source') got × (ends.supply.given source' ≡ ends.supply.given old.source + length got)
     → ends.supply.faults source' ≡ ends.supply.faults old.source → ends.sink_faults output' ≡ ends.sink_faults output
     → Goes ends rules (place_of before stage owed) old source' output output' (Err stop)
-ends_refused ends rules before stage owed old source' output output' stop of_lines refused within gave still wrote = record {
+ends_refused ends rules before stage owed old source' output output' stop of_lines refused early within gave still wrote = record {
   kept = tt;
   lines = tt;
   refused = λ _. refused;
+  no_read_after = λ _. early;
   too_long = λ e. absurd (no_refusal stop TooLong of_lines (λ h. h) e);
   within = inr within;
   gave = gave;
@@ -60,6 +62,7 @@ exit_end ends rules before stage owed tail old new output output' ended ends_her
   lines = none_is (ends.supply.rest (reader_source old)) (ends.supply.rest (reader_source new)) (reader_waiting old) (λ bytes. (before + length (lines_of bytes) ≡ before) × (length bytes ≤ left (view_of old)))
       ended.gave.bytes ended.none ended.end (omega arith, omega arith);
   refused = tt;
+  no_read_after = tt;
   too_long = λ e. absurd (cc);
   within = inr (omega (arith, ended.gave.count));
   gave = gave_none ends old new ended;
@@ -80,12 +83,15 @@ pub exit_missing : {B K Stage Why : Type 0} (ends : Ends B K) (rules : Rules Sta
     → Goes ends rules (place_of before stage owed) (view_of old) (reader_source new) output output' (Err (Line why))
 exit_missing ends rules before stage owed old new output output' why ended missing sent wrote =
     let l0 : ℕ = left (view_of old) in
+    let early : ℕ = length (reader_waiting old) + (ends.supply.given (reader_source new) - ends.supply.given (reader_source old)) - one_read in
     let held = ends.held output in
     let held' = ends.held output' in
     ends_refused ends rules before stage owed (view_of old) (reader_source new) output output' (Line why) tt
     (none_is (ends.supply.rest (reader_source old)) (ends.supply.rest (reader_source new)) (reader_waiting old) (GrewRefused rules (place_of before stage owed) held held' (Line why) l0)
     ended.gave.bytes ended.none ended.end
     ([], subst (λ (ls : List (List ℕ)). AreRefused rules (reaches_end l0 []) before stage ls [] (Line why)) (sym (reached_all l0 [] (omega arith))) (reaches_all l0 [] (omega arith), refl, (why, missing, refl)), grew_nil held held' owed sent))
+    (none_is (ends.supply.rest (reader_source old)) (ends.supply.rest (reader_source new)) (reader_waiting old) (λ bytes. WereKept rules before stage (ended_lines early bytes))
+    ended.gave.bytes ended.none ended.end (none_kept rules before stage (ended_lines early []) (ended_nil early [] refl)))
     (omega (arith, ended.gave.count)) (gave_none ends old new ended) ended.still wrote
 
 -- a line was refused
@@ -101,6 +107,8 @@ exit_refused ends rules before stage owed old new output output' stop line took 
     let held = ends.held output in
     let held' = ends.held output' in
     let reach : l0 ≡ length line + l1 = omega (arith, n.cut, n.room) in
+    let early : ℕ = length (reader_waiting old) + (ends.supply.given (reader_source new) - ends.supply.given (reader_source old)) - one_read in
+    let short : early < length line = omega (arith, n.cut, n.gave, took.ready.few, first_some line (reader_waiting new) takes.first) in
     ends_refused ends rules before stage owed (view_of old) (reader_source new) output output' stop of_lines
     (line_is (ends.supply.rest (reader_source old)) (ends.supply.rest (reader_source new)) (reader_waiting old) (reader_waiting new) line takes.got (GrewRefused rules (place_of before stage owed) held held' stop l0)
     takes.gave.bytes takes.cut takes.first takes.unended
@@ -109,6 +117,9 @@ exit_refused ends rules before stage owed old new output output' stop line took 
       subst (λ (ls : List (List ℕ)). AreRefused rules (reaches_end l0 (line ++ bytes)) before stage ls [] stop) (sym (reached_first line bytes l0 l1 begun reach)) (inl (refl, bad)),
       grew_nil held held' owed sent,
     )))
+    (line_is (ends.supply.rest (reader_source old)) (ends.supply.rest (reader_source new)) (reader_waiting old) (reader_waiting new) line takes.got (λ bytes. WereKept rules before stage (ended_lines early bytes))
+    takes.gave.bytes takes.cut takes.first takes.unended
+    (λ bytes begun. none_kept rules before stage (ended_lines early (line ++ bytes)) (ended_short line bytes early begun short)))
     (omega (arith, n.gave, n.room)) (takes.got, takes.gave.bytes, takes.gave.count) took.still wrote
 
 -- a read failed, and nothing was owed
@@ -125,6 +136,7 @@ exit_failed ends rules before stage old new output failed within =
       kept = tt;
       lines = tt;
       refused = λ h. absurd h;
+      no_read_after = λ h. absurd h;
       too_long = λ e. absurd (cc);
       within = inr (omega (arith, failed.waits.gave.count, failed.waits.taken, failed.limit, within));
       gave = (failed.waits.got, failed.waits.gave.bytes, failed.waits.gave.count);
@@ -160,6 +172,7 @@ exit_passed ends rules before stage owed old new output output' passed sent wrot
       kept = tt;
       lines = tt;
       refused = λ h. absurd h;
+      no_read_after = λ h. absurd h;
       too_long = λ e. omega (arith, given, one, p.taken, p.full, passed.limit);
       within = inl refl;
       gave = (p.got ++ p.probe, p.gave.bytes, p.gave.count);
@@ -187,6 +200,7 @@ exit_starved ends rules before stage owed old new output output' quiet sent wrot
   kept = tt;
   lines = tt;
   refused = λ h. absurd h;
+  no_read_after = λ h. absurd h;
   too_long = λ e. absurd (cc);
   within = inr quiet.within;
   gave = (quiet.got, quiet.gave.bytes, quiet.gave.count);
@@ -222,6 +236,7 @@ exit_write_fault ends rules before stage owed old new output output' quiet rose 
   kept = tt;
   lines = tt;
   refused = λ h. absurd h;
+  no_read_after = λ h. absurd h;
   too_long = λ e. absurd (cc);
   within = inr quiet.within;
   gave = (quiet.got, quiet.gave.bytes, quiet.gave.count);

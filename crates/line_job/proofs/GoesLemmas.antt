@@ -1,5 +1,5 @@
 -- The clauses of a run: from those of what follows a line to those from that line on, and from those after a batch was written.
-use Rattle.std.proofs.Common.{◌≡◌, ◌⊎◌, ◌+◌, ◌-◌, ◌<◌, ◌≤◌, ◌++◌, ℕ, Bool, List, [], ◌∷◌, length, sym, ◌∙◌, ap, subst, refl, inl, inr, arith, length-append, append_assoc, append-nil, Option, Result}
+use Rattle.std.proofs.Common.{◌≡◌, ◌⊎◌, ◌+◌, ◌-◌, ◌<◌, ◌≤◌, ◌++◌, ℕ, Bool, List, [], ◌∷◌, length, sym, ◌∙◌, ap, subst, refl, inl, inr, ⊎_elim, arith, length-append, append_assoc, append-nil, Option, Result}
 use Rattle.std.specs.Io.KnownBytes.{Appends, IsAtEnd}
 use Rattle.std.proofs.KnownBytes.{Appends-trans, Consumes-trans}
 use Rattle.edge_io.specs.Ends.{Rises}
@@ -9,11 +9,11 @@ use Rattle.whiteread.specs.LineCall.{TakesLine}
 use Rattle.whiteread.specs.ReaderState.{reader_source, reader_limit, reader_taken, reader_waiting, reader_line}
 use Rattle.whiteread.specs.declared.reader.Reader.{Reader}
 use Rattle.line_job.specs.declared.stop.Stop.{Stop}
-use Rattle.line_job.specs.Rules.{Rules, KeepsLine, AreKept, AreAllKept, AreRefused}
-use Rattle.line_job.specs.Reached.{reaches_end, ended_lines, reached_lines}
+use Rattle.line_job.specs.Rules.{Rules, KeepsLine, AreKept, WereKept, AreAllKept, AreRefused}
+use Rattle.line_job.specs.Reached.{reaches_end, one_read, ended_lines, reached_lines}
 use Rattle.line_job.specs.Inner.NextLine.{IsOpen, Took}
 use Rattle.line_job.specs.Inner.Goes.{Ends, View, Place, place_of, view_of, left, GrewAll, Grew, GrewLines, GrewSome, GrewRefused, Goes, LeadsTo}
-use Rattle.line_job.proofs.LineLemmas.{lines_first, reached_first, reaches_more, ended_first, ended_unended, ended_nil, open_if_unended}
+use Rattle.line_job.proofs.LineLemmas.{lines_first, first_some, le_or_lt, reached_first, reaches_more, ended_first, ended_short, ended_unended, ended_nil, open_if_unended}
 use Rattle.line_job.proofs.EndLemmas.{on_ok, if_ok, if_err, moves, maps, front_after, grew_nil, grew_assoc, front_assoc}
 
 -- the counts around a line that was taken
@@ -110,6 +110,30 @@ grew_ended rules before stage next owed line after first new held held' n m keep
       grew_nil held held' owed plain,
     )
 
+pub none_kept : {Stage Why : Type 0} (rules : Rules Stage Why) (before : ℕ) (stage : Stage) (lines : List (List ℕ)) → lines ≡ [] → WereKept rules before stage lines
+none_kept rules before stage lines none = ([], stage, subst (λ (ls : List (List ℕ)). AreKept rules before stage ls [] stage) (sym none) (refl, refl))
+
+kept_first : {Stage Why : Type 0} (rules : Rules Stage Why) (before : ℕ) (stage next : Stage) (line after first : List ℕ) (n m : ℕ)
+    → KeepsLine rules stage (before + 1) (without_feed line) first next → IsFirstLine line after → n ≡ length line + m
+    → WereKept rules (before + 1) next (ended_lines m after) → WereKept rules before stage (ended_lines n (line ++ after))
+kept_first rules before stage next line after first n m keeps (inl whole) e (text, last, here) = (
+  first ++ text,
+  last,
+  subst (λ (ls : List (List ℕ)). AreKept rules before stage ls (first ++ text) last) (sym (ended_first line after n m whole e)) (one_more rules before stage next last (without_feed line) first text (ended_lines m after) keeps here),
+)
+kept_first rules before stage next line after first n m keeps (inr last) e here = none_kept rules before stage (ended_lines n (line ++ after)) (ended_unended line after n m last.0 last.1 e)
+
+-- the lines that ended before as many bytes as a read gives: the first of them is kept, or is not among them
+kept_early : {Stage Why : Type 0} (rules : Rules Stage Why) (before : ℕ) (stage next : Stage) (line after first : List ℕ) (n m : ℕ)
+    → KeepsLine rules stage (before + 1) (without_feed line) first next → IsFirstLine line after → n ≡ length line + m
+    → WereKept rules (before + 1) next (ended_lines (m - one_read) after) → WereKept rules before stage (ended_lines (n - one_read) (line ++ after))
+kept_early rules before stage next line after first n m keeps begun e here =
+    let some : 0 < length line = first_some line after begun in
+    ⊎_elim
+    (λ (le : one_read ≤ m). kept_first rules before stage next line after first (n - one_read) (m - one_read) keeps begun (omega (arith, le, e)) here)
+    (λ (lt : m < one_read). none_kept rules before stage (ended_lines (n - one_read) (line ++ after)) (ended_short line after (n - one_read) begun (omega (arith, lt, e, some))))
+    (le_or_lt one_read m)
+
 -- the clauses from a line on, of those of what follows it
 pub goes_line : {B K Stage Why : Type 0} (ends : Ends B K) (rules : Rules Stage Why) (before : ℕ) (stage next : Stage) (owed first : List ℕ) (old new : Reader B) (source' : B) (output output' : K) (result : Result ℕ (Stop Why)) (line : List ℕ)
     → Took ends.supply before old new line → (reader_line new ≡ line) ⊎ (first ≡ []) → reader_taken new ≤ reader_limit new → KeepsLine rules stage (before + 1) (without_feed line) first next
@@ -153,6 +177,11 @@ goes_line {Stage = Stage} ends rules before stage next owed first old new source
                 (refused_more rules (reaches_end l1 bytes) before stage next (without_feed line) first h.0 (reached_lines l1 bytes) stop keeps h.1)),
             grew_assoc held held' owed first h.0 h.2,
           )) (before_ of_lines)) goes.refused;
+      no_read_after = if_err result _ _ (λ stop before_ of_lines. moves r0 r1 w0 w1 line takes.got
+          (λ bytes. WereKept rules (before + 1) next (ended_lines (seen1 - one_read) bytes))
+          (λ bytes. WereKept rules before stage (ended_lines (seen0 - one_read) bytes))
+          takes.gave.bytes takes.cut takes.first takes.unended
+          (λ bytes begun h. kept_early rules before stage next line bytes first seen0 seen1 keeps begun see h) (before_ of_lines)) goes.no_read_after;
       too_long = λ e. (let h : ends.supply.given source' ≡ ends.supply.given (reader_source new) + (reader_limit new - reader_taken new) + 1 = goes.too_long e in omega (arith, h, n.gave, n.room));
       within = elim goes.within [
         | inl e ↦ inl e
@@ -227,6 +256,7 @@ goes_sent ends rules before stage owed old source' output mid output' result sen
       kept = on_ok result (maps r0 _ _ (λ bytes h. (h.0, (h.1.0, h.1.1, on h.1.0 h.1.2)))) goes.kept;
       lines = goes.lines;
       refused = if_err result _ _ (λ stop before_ of_lines. maps r0 _ _ (λ bytes h. (h.0, h.1, on h.0 h.2)) (before_ of_lines)) goes.refused;
+      no_read_after = goes.no_read_after;
       too_long = goes.too_long;
       within = goes.within;
       gave = goes.gave;

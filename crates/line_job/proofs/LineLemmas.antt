@@ -1,9 +1,9 @@
 -- Lemmas on lines: a first one, and what comes after it.
-use Rattle.std.proofs.Common.{◌≡◌, ◌≢◌, ◌+◌, ◌<◌, ◌≤◌, ◌++◌, ◌⊎◌, ◌==◌, ◌||◌, ℕ, Bool, true, false, not, cond, if◌then◌else◌, nat_le, List, [], ◌∷◌, length, take, ap, sym, ◌∙◌, arith, refl, suc, zero, inl, inr, ⊎_elim, append_assoc, append-nil, length-append}
+use Rattle.std.proofs.Common.{◌≡◌, ◌≢◌, ◌+◌, ◌<◌, ◌≤◌, ◌++◌, ◌⊎◌, ◌==◌, ◌||◌, ℕ, Bool, true, false, not, cond, if◌then◌else◌, nat_le, List, [], ◌∷◌, length, take, drop, ap, sym, ◌∙◌, subst, arith, refl, suc, zero, inl, inr, ⊎_elim, append_assoc, append-nil, length-append}
 use Rattle.std.specs.Str.{IsUtf8}
 use Rattle.std.proofs.lemmas.Bool.{cases_order}
 use Rattle.std.proofs.lemmas.Bool.Decides.{nat_tests}
-use Rattle.std.proofs.lemmas.List.{take_all, take-append-le}
+use Rattle.std.proofs.lemmas.List.{take_all, take-append-le, take-append-drop}
 use Rattle.std.proofs.Math.Seq.{take-append-add}
 use Rattle.whiteread.specs.Lines.{lines_of, without_feed, has_feed, up_to_last_feed, HasNoFeed, IsWhole, IsUnended, IsFirstLine}
 use Rattle.whiteread.specs.Lines.Laws.{first_line}
@@ -107,7 +107,7 @@ no_feed_nil k d lt = absurd (omega (arith, lt))
 
 -- the lines that are reached
 
-le_or_lt : (m n : ℕ) → (m ≤ n) ⊎ (n < m)
+pub le_or_lt : (m n : ℕ) → (m ≤ n) ⊎ (n < m)
 le_or_lt m n = ⊎_elim (λ same. inl (omega (arith, same))) (λ other. ⊎_elim (λ less. inl (omega (arith, less))) (λ more. inr more) other) (cases_order m n)
 
 reached_if : (b : Bool) (left : ℕ) (bytes : List ℕ) → nat_le (length bytes) left ≡ b → reached_lines left bytes ≡ (if b then lines_of bytes else ended_lines left bytes)
@@ -170,6 +170,23 @@ ended_unended line after n m unended none e =
 
 pub ended_nil : (n : ℕ) (bytes : List ℕ) → bytes ≡ [] → ended_lines n bytes ≡ []
 ended_nil n bytes none = ap (ended_lines n) none ∙ ap (λ (t : List ℕ). lines_of (up_to_last_feed t)) (take_all n [] (omega arith))
+
+-- a front of bytes without a line feed has none
+no_feed_take : (n : ℕ) (bytes : List ℕ) → HasNoFeed bytes → HasNoFeed (take n bytes)
+no_feed_take n bytes none = no_feed_front (take n bytes) (drop n bytes) (subst HasNoFeed (sym (take-append-drop n bytes)) none)
+
+ended_front : (line after text : List ℕ) (n : ℕ) → take n (line ++ after) ≡ take n text → HasNoFeed text → ended_lines n (line ++ after) ≡ []
+ended_front line after text n cut plain =
+    ap (λ (t : List ℕ). lines_of (up_to_last_feed t)) cut ∙ ap lines_of (up_none (take n text) (no_feed (take n text) (no_feed_take n text plain)))
+
+-- a line has not ended before its last byte
+pub ended_short : (line after : List ℕ) (n : ℕ) → IsFirstLine line after → n < length line → ended_lines n (line ++ after) ≡ []
+ended_short line after n (inl whole) short =
+    let text : List ℕ = whole.0 in
+    let cut : take n (line ++ after) ≡ take n line = take-append-le n line after (omega (arith, short)) in
+    let inside : n ≤ length text = omega (arith, short, ap length whole.1, length-append text (10 ∷ [])) in
+    ended_front line after text n (cut ∙ ap (take n) whole.1 ∙ take-append-le n text (10 ∷ []) inside) whole.2
+ended_short line after n (inr last) short = ended_front line after line n (take-append-le n line after (omega (arith, short))) last.0.1
 
 -- there is no line
 pub not_open : (line : List ℕ) → line ≡ [] → ¬ IsOpen line

@@ -1,5 +1,5 @@
 -- What a reader's reading of a line says, as a run sees it.
-use Rattle.std.proofs.Common.{◌≡◌, ◌+◌, ◌<◌, ◌≤◌, ◌^◌, min, ℕ, Bool, true, false, List, length, sym, ◌∙◌, ap, subst, arith, length-append, Ok, Err}
+use Rattle.std.proofs.Common.{◌≡◌, ◌+◌, ◌<◌, ◌≤◌, ◌^◌, min, ℕ, Bool, true, false, List, length, sym, ◌∙◌, ap, subst, arith, ⊎_elim, length-append, Ok, Err}
 use Rattle.edge_io.specs.Supply.{Supply}
 use Rattle.whiteread.specs.Stream.{OneRises}
 use Rattle.whiteread.specs.LineCall.{LineCall, TakesLine}
@@ -11,7 +11,7 @@ use Rattle.whiteread.specs.declared.stream.error.IoFault.{IoFault}
 use Rattle.whiteread.specs.declared.stream.error.IoFault.TheVariants.{ReadFault as FaultRead, NotUtf8 as FaultUtf8, TooLong as FaultLong, CannotOpen}
 use Rattle.line_job.specs.declared.reading.LineFault.{LineFault}
 use Rattle.line_job.specs.Inner.NextLine.{IsOpen, IsReady, Took, IsToldAs, NextLine}
-use Rattle.line_job.proofs.LineLemmas.{first_some, last_if_open, not_open}
+use Rattle.line_job.proofs.LineLemmas.{first_some, last_if_open, le_or_lt, not_open}
 
 one_more : {B : Type 0} (supply : Supply B) (before : ℕ) (old new : Reader B) (line : List ℕ) → IsReady supply before old → TakesLine supply old new line
     → (before + 1) + length (reader_waiting new) ≤ supply.given (reader_source new)
@@ -19,6 +19,12 @@ one_more supply before old new line ready takes =
     let cut : length (reader_waiting old) + length takes.got ≡ length line + length (reader_waiting new) =
     sym (length-append (reader_waiting old) takes.got) ∙ ap length takes.cut ∙ length-append line (reader_waiting new) in
     omega (arith, ready.counted, takes.gave.count, cut, first_some line (reader_waiting new) takes.first)
+
+less_than_a_read : {B : Type 0} (supply : Supply B) (before : ℕ) (old new : Reader B) (line : List ℕ) → IsReady supply before old → TakesLine supply old new line → length (reader_waiting new) ≤ 4095
+less_than_a_read supply before old new line ready takes =
+    let cut : length (reader_waiting old) + length takes.got ≡ length line + length (reader_waiting new) =
+    sym (length-append (reader_waiting old) takes.got) ∙ ap length takes.cut ∙ length-append line (reader_waiting new) in
+    ⊎_elim (λ (none : length takes.got ≤ 0). omega (arith, cut, none, ready.few)) (λ some. takes.few some) (le_or_lt (length takes.got) 0)
 
 took : {B : Type 0} (supply : Supply B) (before : ℕ) (old new : Reader B) (line : List ℕ)
     → ¬ IsOpen (reader_line old) → IsReady supply before old → TakesLine supply old new line → supply.faults (reader_source new) ≡ supply.faults (reader_source old) → reader_limit new ≡ reader_limit old
@@ -32,6 +38,7 @@ took supply before old new line more ready takes still limit current = record {
     past = takes.past;
     last = λ opened. (let end = last_if_open line (reader_waiting new) takes.first (current opened) in (end.1, takes.unended end.0));
     counted = one_more supply before old new line ready takes;
+    few = less_than_a_read supply before old new line ready takes;
   };
 }
 

@@ -6,6 +6,10 @@ use Rattle.whiteread.specs.Lines.{lines_of, up_to_last_feed}
 abbrev pub reaches_end : ℕ → List ℕ → Bool
 reaches_end limit bytes = nat_le (length bytes) limit
 
+-- How many bytes one read of the input gives at most.
+abbrev pub one_read : ℕ
+one_read = 4096
+
 -- The lines that line feeds end within the first so many bytes.
 abbrev pub ended_lines : ℕ → List ℕ → List (List ℕ)
 ended_lines count bytes = lines_of (up_to_last_feed (take count bytes))

@@ -30,6 +30,10 @@ AreKept rules before stage [] text last = (text ≡ []) × (last ≡ stage)
 AreKept {Stage = Stage} rules before stage (line ∷ lines) text last = (first : List ℕ) × (rest : List ℕ) × (next : Stage)
     × KeepsLine rules stage (before + 1) line first next × (text ≡ first ++ rest) × AreKept rules (before + 1) next lines rest last
 
+-- After so many lines these lines are kept, whatever is owed for them.
+abbrev pub WereKept : {Stage Why : Type 0} → Rules Stage Why → ℕ → Stage → List (List ℕ) → Type 0
+WereKept {Stage = Stage} rules before stage lines = (text : List ℕ) × (last : Stage) × AreKept rules before stage lines text last
+
 -- After so many lines these lines are kept, and so is the end of the input after them; this is owed for all of them, the last text with it.
 abbrev pub AreAllKept : {Stage Why : Type 0} → Rules Stage Why → ℕ → Stage → List (List ℕ) → List ℕ → Type 0
 AreAllKept {Stage = Stage} rules before stage lines text = (owed : List ℕ) × (tail : List ℕ) × (last : Stage)

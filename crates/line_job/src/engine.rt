@@ -8,25 +8,16 @@ ghost use Rattle.line_job.specs.Runs.{Runs};
 ghost use Rattle.line_job.specs.Told.{RunsTold};
 ghost use Rattle.line_job.specs.Inner.NextLine.{IsReady};
 ghost use Rattle.line_job.specs.Inner.Goes.{Goes, LeadsTo, ends_of, view_of, first_place};
-ghost use Rattle.line_job.specs.Inner.Step.{Judged, LineStep, EndStep, SentBefore, stop_of};
+ghost use Rattle.line_job.specs.Inner.Step.{Judged, LineStep, EndStep, SentBefore};
 
 use crate::batch::{send, send_if_due};
-use crate::job::{LineJob, Refusal};
+use crate::job::LineJob;
 use crate::message::{Cause, message_of};
 use crate::reading::{LineFault, next_line, text_of};
 use crate::stop::{Stop, status_of, tell};
 use edge_io::{Sink, Source};
 use std::alloc::Global;
 use whiteread::Reader;
-
-fn stop_of<W: Copy>(refusal: Refusal<W>) -> Stop<W>
-    ensures { result ≡ stop_of refusal }
-{
-    match refusal {
-        Refusal::Line(why) => Stop::Line(why),
-        Refusal::NoMemory => Stop::NoMemory,
-    }
-}
 
 /// Lets the job judge a line, and answers true.
 fn judge_line<J: LineJob>(
@@ -41,10 +32,8 @@ fn judge_line<J: LineJob>(
     ensures judged { Judged J.rules (J.stage job.old) number line.now (J.stage job.new) (string_bytes batch.old) (string_bytes batch.new) result }
     ensures sound { OnOk result (J.IsSound job.new) }
 {
-    match job.line(alloc, number, line, batch) {
-        Ok(()) => Ok(true),
-        Err(refusal) => Err(stop_of(refusal)),
-    }
+    job.line(alloc, number, line, batch)?;
+    Ok(true)
 }
 
 /// Takes the next line, and lets the job judge it where it judges lines, and answers true; or answers false where no
@@ -98,10 +87,8 @@ fn judge_end<J: LineJob>(
     requires { J.IsSound job.now }
     ensures { EndStep J.rules lines (J.stage job.now) (string_bytes batch.old) (string_bytes batch.new) result }
 {
-    match job.end(alloc, lines, batch) {
-        Ok(()) => Ok(lines),
-        Err(refusal) => Err(stop_of(refusal)),
-    }
+    job.end(alloc, lines, batch)?;
+    Ok(lines)
 }
 
 /// Writes the batch, and then gives the answer.

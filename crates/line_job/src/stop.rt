@@ -4,6 +4,7 @@ ghost use Rattle.line_job.specs.declared.stop.Stop.TheVariants.{WriteFault};
 ghost use Rattle.line_job.specs.Ends.{Tells, sink_seen};
 ghost use Rattle.line_job.specs.Told.{status_of};
 
+use crate::job::Refusal;
 use edge_io::{Failed, Sink, write_all};
 use std::alloc::AllocError;
 
@@ -40,6 +41,20 @@ impl<W: Copy> From<AllocError> for Stop<W> {
 
     fn from(_: AllocError) -> Self {
         Stop::NoMemory
+    }
+}
+
+impl<W: Copy> From<Refusal<W>> for Stop<W> {
+    ghost use Rattle.line_job.specs.Stop.{stop_of};
+
+    ghost from_gives = { λ refusal stop. stop ≡ stop_of refusal };
+
+    /// A line that the job refuses, or its want of memory.
+    fn from(refusal: Refusal<W>) -> Self {
+        match refusal {
+            Refusal::Line(why) => Stop::Line(why),
+            Refusal::NoMemory => Stop::NoMemory,
+        }
     }
 }
 

@@ -34,6 +34,7 @@ runs rules start limit source sink = record {
   lines = tt;
   within = tt;
   refused = λ of_lines. absurd of_lines;
+  no_read_after = λ of_lines. absurd of_lines;
   refuses = any_is source.rest _ (λ bytes text stop is. inr (inr (inr refl)));
   too_long = ((λ e. absurd (cc)), (λ more. absurd (omega (arith, more))));
   taken = omega arith;

@@ -9,8 +9,8 @@ use Rattle.whiteread.specs.declared.reader.Reader.{Reader}
 use Rattle.line_job.specs.declared.stop.Stop.{Stop}
 use Rattle.line_job.specs.declared.stop.Stop.TheVariants.{TooLong, ReadFault, WriteFault, NoMemory}
 use Rattle.line_job.specs.Stop.{IsOfLines}
-use Rattle.line_job.specs.Rules.{Rules, AreKept, AreAllKept, AreRefused}
-use Rattle.line_job.specs.Reached.{reaches_end, ended_lines, reached_lines}
+use Rattle.line_job.specs.Rules.{Rules, AreKept, WereKept, AreAllKept, AreRefused}
+use Rattle.line_job.specs.Reached.{reaches_end, one_read, ended_lines, reached_lines}
 use Rattle.line_job.specs.Inner.NextLine.{IsOpen, left_to_take}
 
 -- what the ends show of themselves
@@ -86,6 +86,8 @@ pub record Goes {B K Stage Why : Type 0} (ends : Ends B K) (rules : Rules Stage 
   pub kept : OnOk result (Ahead ends old (λ bytes. IsAtEnd (ends.supply.rest source') × GrewAll rules place (ends.held output) (ends.held output') (lines_of bytes)))
   pub lines : IfOk result (λ n. Ahead ends old (λ bytes. (place.before + length (lines_of bytes) ≡ n) × (length bytes ≤ left old)))
   pub refused : IfErr result (λ stop. IsOfLines stop → Ahead ends old (GrewRefused rules place (ends.held output) (ends.held output') stop (left old)))
+  pub no_read_after : IfErr result (λ stop. IsOfLines stop
+      → Ahead ends old (λ bytes. WereKept rules place.before place.stage (ended_lines (length old.waiting + (ends.supply.given source' - ends.supply.given old.source) - one_read) bytes)))
   pub too_long : IsErrOf result TooLong → ends.supply.given source' ≡ ends.supply.given old.source + old.room + 1
   pub within : IsErrOf result TooLong ⊎ (ends.supply.given source' ≤ ends.supply.given old.source + old.room)
   pub gave : (got : List ℕ) × Consumes (ends.supply.rest old.source) (ends.supply.rest source') got × (ends.supply.given source' ≡ ends.supply.given old.source + length got)

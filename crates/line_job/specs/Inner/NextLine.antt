@@ -17,11 +17,12 @@ use Rattle.line_job.specs.declared.reading.LineFault.TheVariants.{ReadFault, Not
 abbrev pub IsOpen : List ℕ → Type 0
 IsOpen line = (0 < length line) × (length (without_feed line) ≡ length line)
 
--- the limit was not passed, nothing comes after a line that no line feed ends, and so many lines were taken
+-- the limit was not passed, nothing comes after a line that no line feed ends, so many lines were taken, and less than a read waits
 pub record IsReady {B : Type 0} (supply : Supply B) (before : ℕ) (reader : Reader B) : Type 0 where
   pub past : reader_past reader ≡ false
   pub last : IsOpen (reader_line reader) → (reader_waiting reader ≡ []) × IsAtEnd (supply.rest (reader_source reader))
   pub counted : before + length (reader_waiting reader) ≤ supply.given (reader_source reader)
+  pub few : length (reader_waiting reader) ≤ 4095
 
 -- a line was taken
 pub record Took {B : Type 0} (supply : Supply B) (before : ℕ) (old new : Reader B) (line : List ℕ) : Type 0 where

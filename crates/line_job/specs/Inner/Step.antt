@@ -7,8 +7,6 @@ use Rattle.edge_io.specs.Supply.{Supply}
 use Rattle.whiteread.specs.Lines.{without_feed, HasNoFeed}
 use Rattle.whiteread.specs.ReaderState.{reader_waiting, reader_line, ShowsSame}
 use Rattle.whiteread.specs.declared.reader.Reader.{Reader}
-use Rattle.line_job.specs.declared.job.Refusal.{Refusal}
-use Rattle.line_job.specs.declared.job.Refusal.TheVariants.{Line as RefusalLine, NoMemory as RefusalNoMemory}
 use Rattle.line_job.specs.declared.stop.Stop.{Stop}
 use Rattle.line_job.specs.declared.stop.Stop.TheVariants.{Line, NotUtf8, TooLong, ReadFault, WriteFault, NoMemory}
 use Rattle.line_job.specs.Rules.{Rules, KeepsLine, RefusesLine}
@@ -45,11 +43,6 @@ LineStep supply rules before old new stage next batch batch' (Err NoMemory) = Qu
 LineStep supply rules before old new stage next batch batch' (Err WriteFault) = ⊥
 LineStep supply rules before old new stage next batch batch' (Err (NotUtf8 line)) = StepRefused supply rules before old new stage (NotUtf8 line) × (batch' ≡ batch)
 LineStep supply rules before old new stage next batch batch' (Err (Line why)) = StepRefused supply rules before old new stage (Line why) × (batch' ≡ batch)
-
--- a job's refusal, as the run's
-abbrev pub stop_of : {Why : Type 0} → Refusal Why → Stop Why
-stop_of (RefusalLine why) = Line why
-stop_of RefusalNoMemory = NoMemory
 
 -- what stands after each answer of the judging of a line
 abbrev pub Judged : {Stage Why : Type 0} → Rules Stage Why → Stage → ℕ → List ℕ → Stage → List ℕ → List ℕ → Result Bool (Stop Why) → Type 0
