@@ -6,3 +6,4 @@ pub mod LawLemmas
 pub mod WidthLemmas
 pub mod TemplateLemmas
 pub mod Rows
+pub mod NameLemmas

@@ -1,5 +1,5 @@
 -- Worked rows of the definitions, computed.
-use Rattle.std.proofs.Common.{◌≡◌, ℕ, List, [], ◌∷◌, Some, true, Ok, Err, pos, refl, arith, inl, inr}
+use Rattle.std.proofs.Common.{◌≡◌, ℕ, List, [], ◌∷◌, Some, None, true, Ok, Err, pos, refl, arith, inl, inr}
 use Rattle.std.specs.Prelude.{codes, Result}
 use Rattle.std.specs.Str.{chars}
 use Rattle.std.specs.Char.{encode_utf8}
@@ -72,7 +72,7 @@ fault9 = record { segments = []; rest = codes "{99999999999999999999}"; front = 
 
 -- what a source of one placeholder prints over values, strictly
 abbrev printed : Placeholder → List Meaning → Result (List ℕ) Fault
-printed p values = placeholder_text (record { source = []; values = values; names = []; strict = true }) 0 p
+printed p values = placeholder_text (record { source = []; values = values; names = λ _. None; strict = true }) 0 p
 
 abbrev n : ℕ → Meaning
 n k = integer_meaning (pos k) k

@@ -6,13 +6,13 @@ use Rattle.formatx.specs.declared.ast.Argument.{Argument}
 use Rattle.formatx.specs.declared.ast.Argument.TheVariants.{Implicit, Positional, Named}
 use Rattle.formatx.specs.declared.ast.Precision.{Precision}
 use Rattle.formatx.specs.declared.ast.Precision.TheVariants.{Count as Counted, Star}
-use Rattle.formatx.specs.Scene.{Scene, covered, position_of}
+use Rattle.formatx.specs.Scene.{Scene, covered}
 
 -- the position that an argument stands for
 abbrev pub position_at : Scene → ℕ → Argument → Option ℕ
 position_at scene next Implicit = Some next
 position_at scene next (Positional i) = Some i
-position_at scene next (Named s) = position_of (covered scene.source s) scene.names
+position_at scene next (Named s) = scene.names (covered scene.source s)
 
 -- the argument's value, if it is there
 abbrev pub value_at : Scene → ℕ → Argument → Option Meaning

@@ -9,7 +9,7 @@ use Rattle.formatx.specs.declared.ast.Count.TheVariants.{Literal, Param}
 use Rattle.formatx.specs.declared.ast.CountParam.TheVariants.{Positional as AtPosition, Named as ByName}
 use Rattle.formatx.specs.declared.ast.Precision.{Precision}
 use Rattle.formatx.specs.declared.ast.Precision.TheVariants.{Count as Counted, Star}
-use Rattle.formatx.specs.Scene.{Scene, covered, position_of}
+use Rattle.formatx.specs.Scene.{Scene, covered}
 
 -- the number that a value's text writes, or the message with that text between the words
 abbrev pub number_of : List ℕ → Meaning → Result ℕ Fault
@@ -26,7 +26,7 @@ abbrev pub count_of : Scene → Count → Result ℕ Fault
 count_of scene (Literal n) = Ok n
 count_of scene (Param (AtPosition i)) = count_at_position scene i
 count_of scene (Param (ByName s)) =
-    ok_or (position_of (covered scene.source s) scene.names) (unreadable s (quoting (codes "missing count argument: ") (covered scene.source s)))
+    ok_or (scene.names (covered scene.source s)) (unreadable s (quoting (codes "missing count argument: ") (covered scene.source s)))
     >>= count_at_position scene
 
 -- the width, if there is one

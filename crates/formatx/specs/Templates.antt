@@ -2,7 +2,7 @@
 use Rattle.std.specs.Prelude.{◌≡◌, map, ℕ, List, [], ◌∷◌, ◌++◌, Bool}
 use Rattle.formatx.specs.Grammar.{Spells}
 use Rattle.formatx.specs.Values.{Meaning}
-use Rattle.formatx.specs.Scene.{NamedPosition, Scene, covered}
+use Rattle.formatx.specs.Scene.{Scene, covered, named}
 use Rattle.formatx.specs.declared.ast.Argument.{Argument}
 use Rattle.formatx.specs.declared.ast.Argument.TheVariants.{Implicit, Positional, Named}
 use Rattle.formatx.specs.declared.ast.Segment.{Segment}
@@ -12,11 +12,11 @@ use Rattle.formatx.specs.declared.ast.Segment.TheVariants.{Literal, EscapedOpen,
 pub record Filling (V : Type 0) : Type 0 where
   pub source : List ℕ
   pub values : List V
-  pub names : List NamedPosition
+  pub names : List (List ℕ × ℕ)
 
 -- what a renderer prints over, whose values mean what `meaning` says
 abbrev pub filled : {V : Type 0} → (V → Meaning) → Filling V → Bool → Scene
-filled meaning r strict = record { source = r.source; values = map meaning r.values; names = r.names; strict = strict }
+filled meaning r strict = record { source = r.source; values = map meaning r.values; names = named r.names; strict = strict }
 
 -- the name of an argument, if it has one
 abbrev pub argument_names : List ℕ → Argument → List (List ℕ)

@@ -5,7 +5,7 @@ ghost use Rattle.formatx.specs.Fault.{Tells};
 ghost use Rattle.formatx.specs.Inner.Answers.{Answers};
 ghost use Rattle.formatx.specs.Spans.{ArgumentFits, CountFits, Fits, PlaceholderFits, PrecisionFits, SegmentFits, SpanFits};
 ghost use Rattle.formatx.specs.Field.{aligned, body_of, by_shape, cut, field_text, gap_of, number_body, padding_of, shape_by, shaped, sign_text, text_by};
-ghost use Rattle.formatx.specs.Scene.{covered, named_position, position_of, scene_over};
+ghost use Rattle.formatx.specs.Scene.{covered, scene_over};
 ghost use Rattle.formatx.specs.Inner.Scenes.{scene_of};
 ghost use Rattle.formatx.specs.Counts.{count_at_position, count_of, number_of, precision_of, star_precision, width_of};
 ghost use Rattle.formatx.specs.Arguments.{argument_name, argument_takes, position_at, precision_takes, value_at};
@@ -16,8 +16,9 @@ use crate::ast::{
     Precision, Segment, Sign, Span,
 };
 use crate::error::Error;
+use crate::names::Names;
 use crate::parser::{quote, strip, usize_of};
-use crate::value::{DebugStyle, FormatValue, Name, Shape};
+use crate::value::{DebugStyle, FormatValue, Shape};
 use numerals::{Radix, push_digits};
 use padding::{Field, count_chars, front};
 use std::alloc::Global;
@@ -27,24 +28,12 @@ use std::alloc::Global;
 struct Input<'a, V> {
     source: &'a str,
     args: &'a [V],
-    named: &'a [Name],
+    names: &'a Names,
     strict: bool,
 }
 
 // The span of a fault that stands at no place of the source.
 const NOWHERE: Span = Span { start: 0, end: 0 };
-
-// The position of the first equal name.
-fn position_of(name: &str, named: &[Name]) -> Option<usize>
-    ensures { result ≡ position_of name.now (map named_position named.now) }
-{
-    'names: for entry in named {
-        if entry.name.as_str() == name {
-            return Some(entry.index);
-        }
-    }
-    None
-}
 
 // The number that a value's text writes.
 fn number_of<V: FormatValue>(alloc: Global, words: &str, value: &V) -> Result<usize, Error>
@@ -124,7 +113,7 @@ fn count_of<V: FormatValue>(
         ),
         Count::Param(CountParam::Named(span)) => {
             let name = covered(input.source, span);
-            match position_of(name, input.named) {
+            match input.names.position(name) {
                 Some(position) => count_at_position(alloc, input, position),
                 None => {
                     let message = quote(alloc, "missing count argument: ", name)?;
@@ -200,7 +189,7 @@ fn position_at<V: FormatValue>(
     match argument {
         Argument::Implicit => Some(next),
         Argument::Positional(position) => Some(*position),
-        Argument::Named(span) => position_of(covered(input.source, span), input.named),
+        Argument::Named(span) => input.names.position(covered(input.source, span)),
     }
 }
 
@@ -592,7 +581,7 @@ fn push_segment<V: FormatValue>(
     }
 }
 
-/// Appends what a parsed template prints over values: `args` by position, and `named` for the names among these positions.
+/// Appends what a parsed template prints over values: `args` by position, and `names` for the names of some positions.
 /// Where `strict` isn't set, a placeholder whose value is missing prints nothing.
 pub fn render<V: FormatValue>(
     alloc: Global,
@@ -600,23 +589,23 @@ pub fn render<V: FormatValue>(
     source: &str,
     parsed: &FormatString,
     args: &[V],
-    named: &[Name],
+    names: &Names,
     strict: bool,
 ) -> Result<(), Error>
     requires { Fits source.now parsed.now.segments.items }
-    ensures ok { let all = rendered (scene_over V.meaning source.now args.now named.now strict) 0 parsed.now.segments.items in
+    ensures ok { let all = rendered (scene_over V.meaning source.now args.now names.now strict) 0 parsed.now.segments.items in
         OnOk result (Appends (whole all) (string_bytes output.old) (string_bytes output.new)) }
-    ensures err { let all = rendered (scene_over V.meaning source.now args.now named.now strict) 0 parsed.now.segments.items in
+    ensures err { let all = rendered (scene_over V.meaning source.now args.now names.now strict) 0 parsed.now.segments.items in
         IfErr result (λ e. Tells e (λ fault. all.fault ≡ Some fault)) }
 
     // After a refusal stands the text before the fault, or without memory a front of the text.
-    ensures stands { let all = rendered (scene_over V.meaning source.now args.now named.now strict) 0 parsed.now.segments.items in
+    ensures stands { let all = rendered (scene_over V.meaning source.now args.now names.now strict) 0 parsed.now.segments.items in
         IfErr result (λ e. Holds e (string_bytes output.old) (string_bytes output.new) all.text) }
 {
     let input = Input {
         source,
         args,
-        named,
+        names,
         strict,
     };
     let mut scratch = String::new(alloc);

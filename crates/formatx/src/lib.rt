@@ -5,6 +5,7 @@ mod ast;
 mod error;
 mod format;
 mod laws;
+mod names;
 mod parser;
 mod renderer;
 mod template;
@@ -17,7 +18,8 @@ pub use ast::{
 pub use error::Error;
 pub use format::render;
 pub use laws::{fields_are_wide, finishes_agree, missing_is_empty, one_reading};
+pub use names::Names;
 pub use parser::parse;
 pub use renderer::Renderer;
 pub use template::Template;
-pub use value::{DebugStyle, FormatValue, Name, Shape};
+pub use value::{DebugStyle, FormatValue, Shape};

@@ -1,12 +1,14 @@
 // A template with its values.
-ghost use Rattle.std.specs.Prelude.{◌≡◌, ◌++◌, ◌∷◌, [], IfErr, IfOk, OnErr, OnOk, Err, Ok, true, false, length, map, string_bytes};
+ghost use Rattle.std.specs.Prelude.{◌≡◌, ◌++◌, ◌∷◌, [], IfErr, IfOk, OnErr, OnOk, Err, Ok, true, false, length, string_bytes};
 ghost use Rattle.formatx.specs.Fault.{Tells};
+ghost use Rattle.formatx.specs.Scene.{named, with_name};
 ghost use Rattle.formatx.specs.Templates.{filled};
 ghost use Rattle.formatx.specs.Text.{Prints};
 
 use crate::error::Error;
+use crate::names::Names;
 use crate::template::Template;
-use crate::value::{FormatValue, Name};
+use crate::value::FormatValue;
 use std::alloc::Global;
 use std::marker::Model;
 
@@ -15,18 +17,16 @@ use std::marker::Model;
 pub struct Renderer<'a, V: FormatValue> {
     template: &'a Template,
     values: Vec<V>,
-    names: Vec<Name>,
+    names: Names,
     alloc: Global,
 }
 
 impl<'a, V: FormatValue> Model for Renderer<'a, V> {
-    ghost use Rattle.std.specs.Prelude.{map};
     ghost use Rattle.formatx.specs.Templates.{Filling};
-    ghost use Rattle.formatx.specs.Scene.{named_position};
 
     ghost Value = { Filling V };
 
-    ghost view = { λ r. record { source = r.template.now; values = r.values.items; names = map named_position r.names.items } };
+    ghost view = { λ r. record { source = r.template.now; values = r.values.items; names = r.names } };
 }
 
 impl<'a, V: FormatValue> Renderer<'a, V> {
@@ -38,7 +38,7 @@ impl<'a, V: FormatValue> Renderer<'a, V> {
         Renderer {
             template,
             values: Vec::new(alloc),
-            names: Vec::new(alloc),
+            names: Names::new(alloc),
             alloc,
         }
     }
@@ -58,17 +58,16 @@ impl<'a, V: FormatValue> Renderer<'a, V> {
     /// Adds a value at the next position, and a name for this position; where a name comes twice, the first counts. Without
     /// memory the value is dropped.
     pub fn add_named(&mut self, name: &str, value: V) -> Result<(), Error>
-        ensures ok { OnOk result (self.new ≡ record self.old { values = self.old.values ++ value ∷ []; names = self.old.names ++ record { name = name.now; index = length self.old.values } ∷ [] }) }
+        ensures source { self.new.source ≡ self.old.source }
+        ensures values { OnOk result (self.new.values ≡ self.old.values ++ value ∷ []) }
+        ensures names { OnOk result (named self.new.names ≡ with_name (named self.old.names) name.now (length self.old.values)) }
         ensures err { OnErr result (self.new ≡ self.old) }
         ensures memory { IfErr result (λ e. e ≡ Error.NoMemory) }
     {
         let index = self.values.len();
-        let name = String::from_str(self.alloc, name)?;
-        self.names.reserve(1)?;
-        if self.values.push(value).is_err() {
-            return Err(Error::NoMemory);
-        }
-        self.names.push(Name { name, index }).unwrap();
+        self.values.reserve(1)?;
+        self.names.add(name, index)?;
+        self.values.push(value).unwrap();
         Ok(())
     }
 
@@ -85,7 +84,9 @@ impl<'a, V: FormatValue> Renderer<'a, V> {
     /// The same as `add_named`, and answers the renderer.
     pub fn named(&mut self, name: &str, value: V) -> Result<&mut Self, Error>
         ensures same { IfOk result (λ r. r.ghost_name ≡ self.entry.ghost_name) }
-        ensures ok { IfOk result (λ r. r.now ≡ record self.old { values = self.old.values ++ value ∷ []; names = self.old.names ++ record { name = name.now; index = length self.old.values } ∷ [] }) }
+        ensures source { IfOk result (λ r. r.now.source ≡ self.old.source) }
+        ensures values { IfOk result (λ r. r.now.values ≡ self.old.values ++ value ∷ []) }
+        ensures names { IfOk result (λ r. named r.now.names ≡ with_name (named self.old.names) name.now (length self.old.values)) }
         ensures memory { IfErr result (λ e. e ≡ Error.NoMemory) }
     {
         self.add_named(name, value)?;
@@ -117,7 +118,7 @@ impl<'a, V: FormatValue> Renderer<'a, V> {
             self.alloc,
             &mut text,
             self.values.as_slice(),
-            self.names.as_slice(),
+            &self.names,
             strict,
         )?;
         Ok(text)

@@ -10,9 +10,10 @@ ghost use Rattle.formatx.specs.Text.{AppendsPrinted, Prints};
 use crate::ast::{Argument, FormatString, Segment};
 use crate::error::Error;
 use crate::format::render;
+use crate::names::Names;
 use crate::parser::parse;
 use crate::renderer::Renderer;
-use crate::value::{FormatValue, Name, take_back};
+use crate::value::{FormatValue, take_back};
 use std::alloc::Global;
 use std::fmt;
 use std::marker::Model;
@@ -148,7 +149,7 @@ impl Template {
         self.source.as_str()
     }
 
-    /// Appends what the template prints over values: `args` by position, and `named` for the names among these positions.
+    /// Appends what the template prints over values: `args` by position, and `names` for the names of some positions.
     /// Where `strict` isn't set, a placeholder whose value is missing prints nothing. After a refusal `out` is as before.
     /// Nothing of a row is owned, and a value without options is displayed straight into `out`.
     pub fn render_into<V: FormatValue>(
@@ -156,16 +157,16 @@ impl Template {
         alloc: Global,
         out: &mut String,
         args: &[V],
-        named: &[Name],
+        names: &Names,
         strict: bool,
     ) -> Result<(), Error>
-        ensures ok { OnOk result (AppendsPrinted (scene_over V.meaning self.now args.now named.now strict) (string_bytes out.old) (string_bytes out.new)) }
-        ensures err { IfErr result (λ e. Tells e (λ fault. Prints (scene_over V.meaning self.now args.now named.now strict) (Err fault))) }
+        ensures ok { OnOk result (AppendsPrinted (scene_over V.meaning self.now args.now names.now strict) (string_bytes out.old) (string_bytes out.new)) }
+        ensures err { IfErr result (λ e. Tells e (λ fault. Prints (scene_over V.meaning self.now args.now names.now strict) (Err fault))) }
         ensures unchanged { OnErr result (string_bytes out.new ≡ string_bytes out.old) }
     {
         let len = out.len();
         let source = self.source.as_str();
-        match render(alloc, out, source, &self.parsed, args, named, strict) {
+        match render(alloc, out, source, &self.parsed, args, names, strict) {
             Ok(()) => Ok(()),
             Err(error) => {
                 take_back(out, len);

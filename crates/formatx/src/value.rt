@@ -22,13 +22,6 @@ pub enum DebugStyle {
     UpperHex,
 }
 
-/// A name for the value at a position, counted from 0.
-#[derive(Drop)]
-pub struct Name {
-    pub name: String,
-    pub index: usize,
-}
-
 /// A value that a template prints.
 pub trait FormatValue: Drop {
     ghost use Rattle.formatx.specs.Values.{Meaning};

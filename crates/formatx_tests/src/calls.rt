@@ -1,5 +1,7 @@
 // Each public call once, and each carried type.
-use formatx::{DebugStyle, Error, FormatSpec, FormatValue, Name, Segment, Template, parse, render};
+use formatx::{
+    DebugStyle, Error, FormatSpec, FormatValue, Names, Segment, Template, parse, render,
+};
 use std::alloc::Global;
 use std::test::Fail;
 
@@ -163,19 +165,20 @@ fn wide_text(rt: HostRuntime) -> Result<(), Fail> {
 fn rows_into_a_text(rt: HostRuntime) -> Result<(), Fail> {
     let alloc = rt.alloc();
     let template = Template::new(alloc, "{0:>3}|{n:+} ")?;
-    let named = [Name {
-        name: String::from_str(alloc, "n")?,
-        index: 1,
-    }];
+    let mut names = Names::new(alloc);
+    names.add("n", 1)?;
+    names.add("n", 0)?;
+    assert_eq!(rt; names.position("n"), Some(1));
+    assert_eq!(rt; names.position("m"), None);
     let mut out = String::from_str(alloc, "rows ")?;
-    template.render_into::<u8>(alloc, &mut out, &[1, 2], &named, true)?;
-    template.render_into::<u8>(alloc, &mut out, &[30, 4], &named, true)?;
+    template.render_into::<u8>(alloc, &mut out, &[1, 2], &names, true)?;
+    template.render_into::<u8>(alloc, &mut out, &[30, 4], &names, true)?;
     assert!(rt;
         template
-            .render_into::<u8>(alloc, &mut out, &[5], &named, true)
+            .render_into::<u8>(alloc, &mut out, &[5], &names, true)
             .is_err()
     );
-    template.render_into::<u8>(alloc, &mut out, &[6], &named, false)?;
+    template.render_into::<u8>(alloc, &mut out, &[6], &names, false)?;
     assert_eq!(rt; out.as_str(), "rows   1|+2  30|+4   6| ");
     Ok(())
 }

@@ -4,7 +4,7 @@
 mod parts;
 mod shown;
 
-use formatx::{Error, Name, Template, parse, render};
+use formatx::{Error, Names, Template, parse, render};
 use parts::segment_text;
 use replay::{Fault, read_value, undo_texts};
 use shown::Shown;
@@ -54,19 +54,20 @@ fn refused(alloc: Global, error: Error) -> Result<Vec<String>, Fault> {
 #[derive(Drop)]
 struct Arguments {
     values: Vec<Shown>,
-    names: Vec<Name>,
+    names: Names,
 }
 
 /// Reads names and values, which stand by turns; an empty name is none.
 fn read_arguments(alloc: Global, pairs: &[String]) -> Result<Arguments, Fault> {
     let mut values = Vec::new(alloc);
-    let mut names = Vec::new(alloc);
+    let mut names = Names::new(alloc);
     let mut rest = pairs;
     'pairs: while let [name, value, after @ ..] = rest {
         if !name.is_empty() {
-            let name = String::from_str(alloc, name.as_str())?;
             let index = values.len();
-            names.push(Name { name, index })?;
+            if names.add(name.as_str(), index).is_err() {
+                return Err(Fault::NoMemory);
+            }
         }
         values.push(Shown(read_value(alloc, value.as_str())?))?;
         rest = after;

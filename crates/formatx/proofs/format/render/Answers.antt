@@ -12,7 +12,7 @@ use Rattle.formatx.proofs.format.render.Goals as goal
 
 pub returns-in_err-push_segment-clause-stands : goal.returns-in_err-push_segment-clause-stands
 returns-in_err-push_segment-clause-stands g c =
-    let scene = scene_over g.V.FormatValue.meaning c.args.source.now c.args.args.now c.args.named.now c.args.strict in
+    let scene = scene_over g.V.FormatValue.meaning c.args.source.now c.args.args.now c.args.names.now c.args.strict in
     let segments = c.args.parsed.now.segments.items in
     let all = rendered scene 0 segments in
     let error = c.in_err-push_segment.field-0.0 in
@@ -26,7 +26,7 @@ returns-in_err-push_segment-clause-stands g c =
 
 pub returns-in_err-push_segment-clause-err : goal.returns-in_err-push_segment-clause-err
 returns-in_err-push_segment-clause-err g c =
-    let scene = scene_over g.V.FormatValue.meaning c.args.source.now c.args.args.now c.args.named.now c.args.strict in
+    let scene = scene_over g.V.FormatValue.meaning c.args.source.now c.args.args.now c.args.names.now c.args.strict in
     let segments = c.args.parsed.now.segments.items in
     let all = rendered scene 0 segments in
     let error = c.in_err-push_segment.field-0.0 in
