@@ -8,10 +8,14 @@ use Rattle.formatx.specs.Arguments.{precision_takes, value_at}
 use Rattle.formatx.specs.Text.{Prints, argument_text, rendered, segment_takes, segment_text, whole}
 use Rattle.formatx.specs.Grammar.{Spells}
 use Rattle.formatx.proofs.ReadingLemmas.{one_template}
-use Rattle.formatx.specs.Laws.{AllHaveValues, FinishesAgree, HasValue, MissingIsEmpty, with_strict}
+use Rattle.formatx.specs.Laws.{AllHaveValues, FinishesAgree, HasValue, MissingIsEmpty}
 use Rattle.formatx.specs.declared.ast.Placeholder.{Placeholder}
 use Rattle.formatx.specs.declared.ast.Segment.{Segment}
 use Rattle.formatx.specs.declared.ast.Segment.TheVariants.{Literal, EscapedOpen, EscapedClose, Placeholder as Placed}
+
+-- the same scene, strict or lenient
+abbrev with_strict : Scene → Bool → Scene
+with_strict scene strict = record scene { strict = strict }
 
 bind_same : {A B : Type 0} (r : Result A Fault) (f g : A → Result B Fault) → ((a : A) → f a ≡ g a) → (r >>= f) ≡ (r >>= g)
 bind_same (Ok a) f g e = e a

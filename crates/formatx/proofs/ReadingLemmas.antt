@@ -1,16 +1,17 @@
 -- Reading a source segment by segment, and that it gives one thing.
 use Rattle.std.proofs.lemmas.List.{nil_from_length}
 use Rattle.std.proofs.lemmas.List.Elements.{All-push}
-use Rattle.std.proofs.Common.{subst, ◌≡◌, ◌⊎◌, inl, inr, ℕ, ◌-◌, ◌<◌, ◌≤◌, Bool, true, false, List, [], ◌∷◌, ◌++◌, length, drop, get_or, Result, Ok, Err, refl, arith, rules, ap, ◌∙◌, sym}
-use Rattle.std.specs.Prelude.{IsTrue}
+use Rattle.std.proofs.Common.{subst, ◌≡◌, ◌⊎◌, inl, inr, ℕ, ◌+◌, ◌-◌, ◌<◌, ◌≤◌, Bool, true, false, List, [], ◌∷◌, ◌++◌, length, drop, get_or, Result, Ok, Err, refl, arith, rules, ap, ◌∙◌, sym}
+use Rattle.std.specs.Prelude.{IsTrue, codes, if◌then◌else◌}
 use Rattle.std.proofs.lemmas.Bool.Decides.{nat_tests}
-use Rattle.formatx.specs.Fault.{Fault, Tells, between, ◌>>=◌}
-use Rattle.formatx.specs.Spans.{Fits, SegmentFits, StandsAt, Tiles}
+use Rattle.formatx.specs.Fault.{Fault, Tells, between, unreadable, ◌>>=◌}
+use Rattle.formatx.specs.Spans.{Fits, SegmentFits, Tiles}
 use Rattle.formatx.specs.Inner.Ends.{IsEnd}
 use Rattle.formatx.proofs.EndLemmas.{end_whole, end_trans, end_length}
 use Rattle.formatx.specs.declared.error.Error.{Error}
 use Rattle.formatx.specs.Words.{begins, after, is_plain}
-use Rattle.formatx.specs.Placeholders.{argument_of, spec_of, closed, placeholder_of}
+use Rattle.formatx.specs.Options.{Read}
+use Rattle.formatx.specs.Placeholders.{argument_of, spec_of, placeholder_of}
 use Rattle.formatx.specs.Grammar.{is_single, IsSegment, SpellsTo, Spells, BeginsWithFault, HasFault}
 use Rattle.formatx.specs.Laws.{HasOneReading}
 use Rattle.formatx.specs.declared.ast.Span.{Span}
@@ -170,16 +171,35 @@ tells_wider e P Q wider (inr none) = inr none
 pub first_fault : (source rest : List ℕ) (ss : List Segment) (fault : Fault) → SpellsTo (length source) ss source rest → BeginsWithFault (length source) rest fault → HasFault source fault
 first_fault source rest ss fault front first = record { segments = ss; rest = rest; front = front; first = first }
 
+-- where a segment stands
+abbrev pub StandsAt : ℕ → ℕ → Segment → Type 0
+StandsAt i j (Literal s) = (s.start ≡ i) × (s.end ≡ j)
+StandsAt i j (Placed p) = (p.span.start ≡ i) × (p.span.end ≡ j)
+StandsAt i j _ = j ≡ i + 2
+
 -- one place more
 pub tiles_more : (front : List Segment) (at i j : ℕ) (s : Segment) → Tiles i at front → StandsAt i j s → Tiles j at (front ++ s ∷ [])
-tiles_more [] at i j s h stands = (j, subst (λ (k : ℕ). StandsAt k j s) (sym h) stands, refl)
-tiles_more (t ∷ ts) at i j s h stands = (h.0, h.1, tiles_more ts h.0 i j s h.2 stands)
+tiles_more [] at i j (Literal x) h stands = (stands.0 ∙ sym h, stands.1)
+tiles_more [] at i j EscapedOpen h stands = omega (arith, h, stands)
+tiles_more [] at i j EscapedClose h stands = omega (arith, h, stands)
+tiles_more [] at i j (Placed p) h stands = (stands.0 ∙ sym h, stands.1)
+tiles_more (Literal x ∷ ts) at i j s h stands = (h.0, tiles_more ts x.end i j s h.1 stands)
+tiles_more (EscapedOpen ∷ ts) at i j s h stands = tiles_more ts (at + 2) i j s h stands
+tiles_more (EscapedClose ∷ ts) at i j s h stands = tiles_more ts (at + 2) i j s h stands
+tiles_more (Placed p ∷ ts) at i j s h stands = (h.0, tiles_more ts p.span.end i j s h.1 stands)
 
 ok_value : {A : Type 0} (x y : A) → (let r : Result A Fault = Ok x in r) ≡ Ok y → x ≡ y
 ok_value x y e = cc
 
 err_is_not_ok : {A : Type 0} (f : Fault) (y : A) → (let r : Result A Fault = Err f in r) ≡ Ok y → ⊥
 err_is_not_ok f y e = cc
+
+-- the placeholder of these parts, where its `}` follows them
+abbrev closed : ℕ → List ℕ → Argument → FormatSpec × List ℕ → Read Placeholder
+closed size text argument spec =
+    if begins spec.1 125
+    then Ok (record { argument = argument; spec = spec.0; span = between size text (drop 1 spec.1) }, drop 1 spec.1)
+    else Err (unreadable (between size text spec.1) (codes "unmatched `{`"))
 
 -- a placeholder's span reaches from its `{` to what follows it
 placed_span : (size : ℕ) (text : List ℕ) (p : Placeholder) (rest : List ℕ) → placeholder_of size text ≡ Ok (p, rest) → p.span ≡ between size text rest

@@ -4,11 +4,11 @@ use Rattle.std.specs.List.{prefix_len}
 use Rattle.std.specs.Result.{result_ok}
 use Rattle.std.proofs.lemmas.Bool.{cases_lt}
 use Rattle.std.proofs.lemmas.Bool.Decides.{nat_tests}
-use Rattle.std.specs.Str.{IsUtf8, IsCharBoundary}
+use Rattle.std.specs.Str.{IsUtf8, IsCharBoundary, all_ascii_digits}
 use Rattle.std.specs.Str.Parse.{AllDigits, ParsesUnsigned, without_leading_plus}
 use Rattle.std.proofs.lemmas.Str.{IsCharBoundary-start, IsCharBoundary-end, IsCharBoundary-after_ascii, IsCharBoundary-before_ascii}
 use Rattle.std.proofs.lemmas.List.Sums.{prefix_len_passes, prefix_len_stops, prefix_len-le-length}
-use Rattle.formatx.specs.Words.{all_digits, usize_of}
+use Rattle.formatx.specs.Words.{usize_of}
 
 -- a run of what doesn't fail is a run of what passes
 prefix_len-not_not : (p : ℕ → Bool) (xs : List ℕ) → prefix_len (λ x. not (not (p x))) xs ≡ prefix_len p xs
@@ -44,18 +44,18 @@ run_boundary_before p bs ascii = by_end (cases_lt (prefix_len p bs) (length bs))
     by_end (inr past) = let end : prefix_len p bs ≡ length bs = omega (arith, prefix_len-le-length p bs) in rw end (IsCharBoundary-end bs)
 
 -- the tests of a text of digits
-all_digits-true : (ds : List ℕ) → AllDigits 10 ds → all_digits ds ≡ true
-all_digits-true [] h = refl
-all_digits-true (d ∷ ds) h = let ih = all_digits-true ds h.1 in grind (arith, nat_tests)
+all_ascii_digits-true : (ds : List ℕ) → AllDigits 10 ds → all_ascii_digits ds ≡ true
+all_ascii_digits-true [] h = refl
+all_ascii_digits-true (d ∷ ds) h = let ih = all_ascii_digits-true ds h.1 in grind (arith, nat_tests)
 
-AllDigits-from_test : (ds : List ℕ) → all_digits ds ≡ true → AllDigits 10 ds
+AllDigits-from_test : (ds : List ℕ) → all_ascii_digits ds ≡ true → AllDigits 10 ds
 AllDigits-from_test [] h = tt
 AllDigits-from_test (d ∷ ds) h = let ih = AllDigits-from_test ds in grind (arith, nat_tests)
 
 -- what `parse` reads as a `usize`
 pub usize_of-parsed : {E : Type 0} (bs : List ℕ) (r : Result ℕ E) → ParsesUnsigned 64 10 bs r → result_ok r ≡ usize_of bs
 usize_of-parsed bs (Ok n) h =
-    let digits = all_digits-true (without_leading_plus bs) h.0.0.1 in
+    let digits = all_ascii_digits-true (without_leading_plus bs) h.0.0.1 in
     grind (arith, nat_tests)
 usize_of-parsed bs (Err e) h =
     let digits = AllDigits-from_test (without_leading_plus bs) in

@@ -1,5 +1,5 @@
 -- A field has at least its width in characters.
-use Rattle.std.proofs.Common.{◌≡◌, ℕ, zero, suc, ◌+◌, ◌<◌, ◌≤◌, Bool, true, false, cond, eqb, List, [], ◌∷◌, ◌++◌, length, take, drop, get_or, Option, Some, None, IfSome, refl, arith, ap, ◌∙◌, unwrap_or}
+use Rattle.std.proofs.Common.{◌≡◌, ℕ, zero, suc, ◌+◌, ◌<◌, ◌≤◌, Bool, true, false, cond, ◌||◌, eqb, List, [], ◌∷◌, ◌++◌, length, take, drop, get_or, Option, Some, None, IfSome, is_some, refl, arith, ap, ◌∙◌, unwrap_or}
 use Rattle.std.specs.Prelude.{replicate}
 use Rattle.std.specs.Str.{IsUtf8, all_scalars, chars}
 use Rattle.std.specs.Char.{IsScalar, encode_utf8}
@@ -7,7 +7,7 @@ use Rattle.std.proofs.lemmas.Bool.Decides.{nat_tests}
 use Rattle.std.proofs.lemmas.List.{length-append}
 use Rattle.std.proofs.lemmas.Str.{chars-append, chars-encodes, scalars-chars, IsUtf8-append, IsUtf8-drop, IsCharBoundary-after_ascii}
 use Rattle.padding.specs.Field.{fills}
-use Rattle.formatx.specs.Field.{Body, aligned, body_of, by_shape, cut, gap_of, is_aligned, laid_out, number_body, padding_of, sign_text, shaped}
+use Rattle.formatx.specs.Field.{Body, aligned, body_of, by_shape, cut, gap_of, laid_out, number_body, padding_of, sign_text, shaped}
 use Rattle.formatx.specs.Laws.{FieldsAreWide}
 use Rattle.formatx.specs.declared.ast.FormatSpec.{FormatSpec}
 use Rattle.formatx.specs.declared.ast.Align.{Align}
@@ -36,7 +36,7 @@ by_shape-Fills Raw zero_pad gap h = absurd (h refl)
 
 padding-Fills : (spec : FormatSpec) (shape : Shape) (gap : ℕ) → ¬ (shape ≡ Raw) → Fills (padding_of spec shape gap) gap
 padding-Fills spec shape gap h =
-    elim (is_aligned spec) as (λ b. Fills (cond b (aligned spec.align gap) (by_shape shape spec.zero_pad gap)) gap)
+    elim (is_some spec.fill || is_some spec.align) as (λ b. Fills (cond b (aligned spec.align gap) (by_shape shape spec.zero_pad gap)) gap)
     [ true ↦ aligned-Fills spec.align gap | false ↦ by_shape-Fills shape spec.zero_pad gap h ]
 
 -- copies of a character are as many characters

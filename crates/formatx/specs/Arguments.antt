@@ -1,11 +1,11 @@
 -- Which value a placeholder prints, and how many implicit positions it takes.
-use Rattle.std.specs.Prelude.{ℕ, false, List, slice_get, Option, Some, None, option_and_then}
+use Rattle.std.specs.Prelude.{ℕ, false, List, slice_get, Option, Some, option_and_then}
 use Rattle.numerals.specs.Numeral.{numeral}
 use Rattle.formatx.specs.Values.{Meaning}
 use Rattle.formatx.specs.declared.ast.Argument.{Argument}
 use Rattle.formatx.specs.declared.ast.Argument.TheVariants.{Implicit, Positional, Named}
 use Rattle.formatx.specs.declared.ast.Precision.{Precision}
-use Rattle.formatx.specs.declared.ast.Precision.TheVariants.{Count as Counted, Star}
+use Rattle.formatx.specs.declared.ast.Precision.TheVariants.{Star}
 use Rattle.formatx.specs.Scene.{Scene, covered}
 
 -- the position that an argument stands for
@@ -27,11 +27,9 @@ argument_name source next (Named s) = covered source s
 -- how many implicit positions a precision takes
 abbrev pub precision_takes : Option Precision → ℕ
 precision_takes (Some Star) = 1
-precision_takes (Some (Counted c)) = 0
-precision_takes None = 0
+precision_takes _ = 0
 
 -- how many implicit positions an argument takes
 abbrev pub argument_takes : Argument → ℕ
 argument_takes Implicit = 1
-argument_takes (Positional i) = 0
-argument_takes (Named s) = 0
+argument_takes _ = 0

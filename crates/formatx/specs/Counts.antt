@@ -1,9 +1,9 @@
 -- Widths and precisions: a number of the template, or one that a value holds.
 use Rattle.std.specs.Prelude.{ℕ, false, List, ◌++◌, codes, slice_get, Option, Some, None, Result, Ok, ok_or}
+use Rattle.std.specs.Option.{option_map_or}
 use Rattle.numerals.specs.Numeral.{numeral}
 use Rattle.formatx.specs.Fault.{Fault, unreadable, ◌>>=◌, span, quoting}
 use Rattle.formatx.specs.Words.{usize_of}
-use Rattle.formatx.specs.Values.{Meaning}
 use Rattle.formatx.specs.declared.ast.Count.{Count}
 use Rattle.formatx.specs.declared.ast.Count.TheVariants.{Literal, Param}
 use Rattle.formatx.specs.declared.ast.CountParam.TheVariants.{Positional as AtPosition, Named as ByName}
@@ -11,15 +11,15 @@ use Rattle.formatx.specs.declared.ast.Precision.{Precision}
 use Rattle.formatx.specs.declared.ast.Precision.TheVariants.{Count as Counted, Star}
 use Rattle.formatx.specs.Scene.{Scene, covered}
 
--- the number that a value's text writes, or the message with that text between the words
-abbrev pub number_of : List ℕ → Meaning → Result ℕ Fault
-number_of words m = ok_or (usize_of m.display) (unreadable (span 0 0) (quoting words m.display ++ codes " is not a valid usize"))
+-- the number that the value at a position writes, or the message that none is there, or the words with what is there
+abbrev pub number_at : Scene → ℕ → List ℕ → List ℕ → Result ℕ Fault
+number_at scene i missing words =
+    ok_or (slice_get scene.values i) (unreadable (span 0 0) missing) >>= λ m.
+    ok_or (usize_of m.display) (unreadable (span 0 0) (quoting words m.display ++ codes " is not a valid usize"))
 
 -- the value at a position, as a number
 abbrev pub count_at_position : Scene → ℕ → Result ℕ Fault
-count_at_position scene i =
-    ok_or (slice_get scene.values i) (unreadable (span 0 0) (codes "count argument index " ++ numeral 10 false i ++ codes " out of range"))
-    >>= number_of (codes "count argument ")
+count_at_position scene i = number_at scene i (codes "count argument index " ++ numeral 10 false i ++ codes " out of range") (codes "count argument ")
 
 -- the number that a count stands for
 abbrev pub count_of : Scene → Count → Result ℕ Fault
@@ -31,14 +31,11 @@ count_of scene (Param (ByName s)) =
 
 -- the width, if there is one
 abbrev pub width_of : Scene → Option Count → Result (Option ℕ) Fault
-width_of scene None = Ok None
-width_of scene (Some c) = count_of scene c >>= λ n. Ok (Some n)
+width_of scene width = option_map_or (λ c. count_of scene c >>= λ n. Ok (Some n)) width (Ok None)
 
 -- the precision that the next implicit position holds
 abbrev pub star_precision : Scene → ℕ → Result ℕ Fault
-star_precision scene next =
-    ok_or (slice_get scene.values next) (unreadable (span 0 0) (codes "not enough arguments for `.*` precision"))
-    >>= number_of (codes "`.*` precision argument ")
+star_precision scene next = number_at scene next (codes "not enough arguments for `.*` precision") (codes "`.*` precision argument ")
 
 -- a precision: `.*` takes the next implicit position
 abbrev pub precision_of : Scene → ℕ → Option Precision → Result (Option ℕ) Fault

@@ -1,15 +1,16 @@
 -- The text of one value under a specification whose width and precision are numbers.
-use Rattle.std.specs.Prelude.{ℕ, ◌+◌, ◌-◌, ◌/◌, Bool, true, false, ◌||◌, List, [], ◌++◌, length, take, drop, codes, chars, encode_utf8_all, if◌then◌else◌, is_some, Option, Some, None, unwrap_or}
+use Rattle.std.specs.Prelude.{ℕ, ◌+◌, ◌-◌, ◌/◌, Bool, true, false, ◌||◌, List, [], ◌++◌, length, take, drop, codes, chars, encode_utf8_all, if◌then◌else◌, is_some, Option, Some, unwrap_or}
 use Rattle.std.specs.Str.{byte}
+use Rattle.std.specs.Option.{option_map_or}
 use Rattle.padding.specs.Field.{fills}
 use Rattle.formatx.specs.Words.{begins}
 use Rattle.formatx.specs.Values.{Meaning}
 use Rattle.formatx.specs.declared.format.Padding.{Padding}
 use Rattle.formatx.specs.declared.ast.FormatSpec.{FormatSpec}
 use Rattle.formatx.specs.declared.ast.Align.{Align}
-use Rattle.formatx.specs.declared.ast.Align.TheVariants.{Left, Center, Right}
+use Rattle.formatx.specs.declared.ast.Align.TheVariants.{Center, Right}
 use Rattle.formatx.specs.declared.ast.Sign.{Sign}
-use Rattle.formatx.specs.declared.ast.Sign.TheVariants.{Plus, Minus}
+use Rattle.formatx.specs.declared.ast.Sign.TheVariants.{Plus}
 use Rattle.formatx.specs.declared.ast.FormatType.{FormatType}
 use Rattle.formatx.specs.declared.ast.FormatType.TheVariants.{Debug, DebugLowerHex, DebugUpperHex}
 use Rattle.formatx.specs.declared.value.Shape.{Shape}
@@ -21,11 +22,10 @@ pub record Body : Type 0 where
   pub sign : List ℕ
   pub rest : List ℕ
 
--- the sign before a number that isn't negative
+-- the sign before a number that isn't negative: `-` has no effect
 abbrev pub sign_text : Option Sign → List ℕ
 sign_text (Some Plus) = codes "+"
-sign_text (Some Minus) = []
-sign_text None = []
+sign_text _ = []
 
 -- a number's sign and its digits
 abbrev pub number_body : Option Sign → List ℕ → Body
@@ -34,8 +34,7 @@ number_body sign text =
 
 -- the first characters of a text, as many as the precision allows
 abbrev pub cut : Option ℕ → List ℕ → List ℕ
-cut (Some n) text = encode_utf8_all (take n (chars text))
-cut None text = text
+cut precision text = option_map_or (λ n. encode_utf8_all (take n (chars text))) precision text
 
 -- only a number has a sign, and only a text is cut to the precision
 abbrev pub body_of : Shape → Option Sign → Option ℕ → List ℕ → Body
@@ -52,8 +51,7 @@ gap_of width body = unwrap_or width 0 - (length body.sign + length (chars body.r
 abbrev pub aligned : Option Align → ℕ → Padding
 aligned (Some Right) gap = record { left = gap; zeros = 0; right = 0 }
 aligned (Some Center) gap = record { left = gap / 2; zeros = 0; right = gap - gap / 2 }
-aligned (Some Left) gap = record { left = 0; zeros = 0; right = gap }
-aligned None gap = record { left = 0; zeros = 0; right = gap }
+aligned _ gap = record { left = 0; zeros = 0; right = gap }
 
 -- without fill and alignment a number is padded on the left, a text on the right, and a raw text not at all
 abbrev pub by_shape : Shape → Bool → ℕ → Padding
@@ -62,13 +60,9 @@ by_shape Integer false gap = record { left = gap; zeros = 0; right = 0 }
 by_shape Text zero gap = record { left = 0; zeros = 0; right = gap }
 by_shape Raw zero gap = record { left = 0; zeros = 0; right = 0 }
 
--- whether a fill or an alignment is given
-abbrev pub is_aligned : FormatSpec → Bool
-is_aligned spec = is_some spec.fill || is_some spec.align
-
 -- a fill or an alignment pads every shape, and without both the shape says how
 abbrev pub padding_of : FormatSpec → Shape → ℕ → Padding
-padding_of spec shape gap = if is_aligned spec then aligned spec.align gap else by_shape shape spec.zero_pad gap
+padding_of spec shape gap = if is_some spec.fill || is_some spec.align then aligned spec.align gap else by_shape shape spec.zero_pad gap
 
 -- a body with its padding
 abbrev pub laid_out : ℕ → Padding → Body → List ℕ

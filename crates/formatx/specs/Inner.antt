@@ -1,4 +1,5 @@
 pub mod Answers
 pub mod Ends
+pub mod Parts
 pub mod Scenes
 pub mod Parsed

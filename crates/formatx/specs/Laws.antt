@@ -1,5 +1,5 @@
 -- Laws of templates, each carried by a function of the crate with an empty body.
-use Rattle.std.specs.Prelude.{◌≡◌, ◌↔◌, ◌≤◌, ◌+◌, ℕ, Bool, true, false, List, [], ◌∷◌, length, chars, IsSome, IfSome, IsUtf8, Option, Some, None, Result, Ok, Err, ⊤}
+use Rattle.std.specs.Prelude.{◌≡◌, ◌↔◌, ◌≤◌, ◌+◌, ℕ, true, false, List, [], ◌∷◌, length, chars, IsSome, IfSome, IsUtf8, Option, Some, None, Result, Ok, Err, ⊤}
 use Rattle.std.specs.Char.{IsScalar}
 use Rattle.formatx.specs.Fault.{Fault, missing}
 use Rattle.formatx.specs.Grammar.{Reads, Spells}
@@ -13,37 +13,31 @@ use Rattle.formatx.specs.declared.ast.FormatSpec.{FormatSpec}
 use Rattle.formatx.specs.declared.ast.FormatType.TheVariants.{Display}
 use Rattle.formatx.specs.declared.ast.Placeholder.{Placeholder}
 use Rattle.formatx.specs.declared.ast.Segment.{Segment}
-use Rattle.formatx.specs.declared.ast.Segment.TheVariants.{Literal, EscapedOpen, EscapedClose, Placeholder as Placed}
+use Rattle.formatx.specs.declared.ast.Segment.TheVariants.{Placeholder as Placed}
 use Rattle.formatx.specs.declared.value.Shape.TheVariants.{Raw}
 
 -- the value of the segment's argument is there
 abbrev pub HasValue : Scene → ℕ → Segment → Type 0
 HasValue scene next (Placed p) = IsSome (value_at scene (next + precision_takes p.spec.precision) p.argument)
-HasValue scene next (Literal s) = ⊤
-HasValue scene next EscapedOpen = ⊤
-HasValue scene next EscapedClose = ⊤
+HasValue scene next _ = ⊤
 
 -- no placeholder lacks its value
 abbrev pub AllHaveValues : Scene → ℕ → List Segment → Type 0
 AllHaveValues scene next [] = ⊤
 AllHaveValues scene next (s ∷ ss) = HasValue scene next s × AllHaveValues scene (next + segment_takes s) ss
 
--- the same scene, strict or lenient
-abbrev pub with_strict : Scene → Bool → Scene
-with_strict scene strict = record { source = scene.source; values = scene.values; names = scene.names; strict = strict }
-
 -- strict and lenient printing agree where no placeholder lacks its value
 abbrev pub FinishesAgree : Type 0
 FinishesAgree = (scene : Scene) (segments : List Segment) (r : Result (List ℕ) Fault) → Spells scene.source segments → AllHaveValues scene 0 segments
-    → (Prints (with_strict scene true) r ↔ Prints (with_strict scene false) r)
+    → (Prints (record scene { strict = true }) r ↔ Prints (record scene { strict = false }) r)
 
 -- where a placeholder's value isn't there, and its precision is, a lenient finish has the empty text in its place, and a
 -- strict one refuses it by its name and its span
 abbrev pub MissingIsEmpty : Type 0
 MissingIsEmpty = (scene : Scene) (next : ℕ) (p : Placeholder) (precision : Option ℕ) → let own = next + precision_takes p.spec.precision in
     precision_of scene next p.spec.precision ≡ Ok precision → value_at scene own p.argument ≡ None
-    → (segment_text (with_strict scene false) next (Placed p) ≡ Ok [])
-    × (segment_text (with_strict scene true) next (Placed p) ≡ Err (missing (argument_name scene.source own p.argument) p.span))
+    → (segment_text (record scene { strict = false }) next (Placed p) ≡ Ok [])
+    × (segment_text (record scene { strict = true }) next (Placed p) ≡ Err (missing (argument_name scene.source own p.argument) p.span))
 
 -- a printed field whose shape isn't raw has at least its width in characters
 abbrev pub FieldsAreWide : Type 0

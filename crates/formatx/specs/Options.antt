@@ -1,10 +1,12 @@
 -- The parts of a specification that a text begins with: each part with what follows it, or its fault.
-use Rattle.std.specs.Prelude.{ℕ, Bool, true, false, ◌&&◌, ◌||◌, List, length, slice_index, drop, chars, codes, encode_utf8, ◌==◌, if◌then◌else◌, Option, Some, None, ok_or, not, Result, Ok, Err}
+use Rattle.std.specs.Prelude.{ℕ, Bool, true, false, ◌&&◌, ◌||◌, List, [], ◌∷◌, length, slice_index, drop, chars, codes, encode_utf8, ◌==◌, if◌then◌else◌, Option, Some, None, is_some, option_map, unwrap_or, ok_or, not, Result, Ok, Err}
+use Rattle.std.specs.Option.{option_or}
 use Rattle.std.specs.Char.{is_ascii_digit, len_utf8}
-use Rattle.std.specs.List.{take_while}
+use Rattle.std.specs.List.{take_while, zip}
+use Rattle.std.specs.Map.{lookup}
 use Rattle.std.specs.Str.{byte}
 use Rattle.formatx.specs.Fault.{Fault, unreadable, ◌>>=◌, between, quoting}
-use Rattle.formatx.specs.Words.{begins, after, is_word_start, is_word, is_type_start, usize_of}
+use Rattle.formatx.specs.Words.{begins, after, is_word_start, is_word, usize_of}
 use Rattle.formatx.specs.declared.ast.Align.{Align}
 use Rattle.formatx.specs.declared.ast.Align.TheVariants.{Left, Center, Right}
 use Rattle.formatx.specs.declared.ast.Sign.{Sign}
@@ -34,21 +36,15 @@ first_char text = slice_index (chars text) 0
 abbrev pub after_char : List ℕ → List ℕ
 after_char text = drop (len_utf8 (first_char text)) text
 
--- an alignment alone, if there is one
-abbrev pub lone_align : List ℕ → Option Align → Option ℕ × Option Align × List ℕ
-lone_align text (Some a) = (None, Some a, drop 1 text)
-lone_align text None = (None, None, text)
+-- the alignment in front of a text, if there is one, with a fill
+abbrev pub align_at : Option ℕ → List ℕ → Option (Option ℕ × Option Align × List ℕ)
+align_at fill text = option_map (λ a. (fill, Some a, drop 1 text)) (align_by (slice_index text 0))
 
--- the first character is the fill, where an alignment stands right after it
-abbrev pub filled_align : List ℕ → Option Align → Option ℕ × Option Align × List ℕ
-filled_align text (Some a) = (Some (first_char text), Some a, drop 1 (after_char text))
-filled_align text None = lone_align text (align_by (slice_index text 0))
-
--- a fill and an alignment, or an alignment alone; `}` is never a fill
+-- the first character as a fill with an alignment right after it, or an alignment alone; `}` is never a fill
 abbrev pub fill_align_of : List ℕ → Option ℕ × Option Align × List ℕ
 fill_align_of text =
     if length text == 0 || begins text (byte "}") then (None, None, text)
-    else filled_align text (align_by (slice_index (after_char text) 0))
+    else unwrap_or (option_or (align_at (Some (first_char text)) (after_char text)) (align_at None text)) (None, None, text)
 
 -- `+` or `-`
 abbrev pub sign_of : List ℕ → Option Sign × List ℕ
@@ -59,9 +55,13 @@ sign_of text =
 abbrev pub alternate_of : List ℕ → Bool × List ℕ
 alternate_of text = if begins text (byte "#") then (true, drop 1 text) else (false, text)
 
+-- the types by the letter that they begin with
+abbrev pub type_by : ℕ → Option FormatType
+type_by c = lookup (λ letter. c == letter) (zip (codes "?oxXbeEp") (Debug ∷ Octal ∷ LowerHex ∷ UpperHex ∷ Binary ∷ LowerExp ∷ UpperExp ∷ Pointer ∷ []))
+
 -- a digit, `}`, `.`, a type or the end, one of which follows the zero flag
 abbrev pub follows_zero : List ℕ → Bool
-follows_zero text = length text == 0 || is_ascii_digit (slice_index text 0) || begins text (byte "}") || begins text (byte ".") || is_type_start (slice_index text 0)
+follows_zero text = length text == 0 || is_ascii_digit (slice_index text 0) || begins text (byte "}") || begins text (byte ".") || is_some (type_by (slice_index text 0))
 
 -- `0`, where it is the zero flag
 abbrev pub zero_of : List ℕ → Bool × List ℕ
@@ -90,11 +90,6 @@ count_of size text =
     then Ok (Some (Param (Named (between size text rest))), drop 1 rest)
     else Ok (None, text))
 
--- the count after the `.` that the text begins with, which must be there
-abbrev pub needed_count : ℕ → List ℕ → Option Count × List ℕ → Read (Option Precision)
-needed_count size text (Some n, rest) = Ok (Some (Counted n), rest)
-needed_count size text (None, rest) = Err (unreadable (between size text (drop 1 text)) (codes "expected precision value after `.`"))
-
 -- `.` and a count, or `.*`
 unfoldable pub precision_of : ℕ → List ℕ → Read (Option Precision)
 precision_of size text =
@@ -102,24 +97,15 @@ precision_of size text =
     if not (begins text (byte ".")) then Ok (None, text) else
     (if length rest == 0 then Err (unreadable (between size text rest) (codes "expected precision after `.`")) else
     (if begins rest (byte "*") then Ok (Some Star, drop 1 rest) else
-    (count_of size rest >>= needed_count size text)))
+    (count_of size rest >>= λ count.
+    ok_or (option_map (λ n. (Some (Counted n), count.1)) count.0) (unreadable (between size text rest) (codes "expected precision value after `.`")))))
 
--- what follows an `x` or an `X`: with `?` there it is a debug type
-abbrev pub hex_of : List ℕ → FormatType → FormatType → FormatType × List ℕ
-hex_of rest hex debug = if begins rest (byte "?") then (debug, drop 1 rest) else (hex, rest)
-
--- a type; none where `}` or the end stands
+-- a type: none where `}` or the end stands, and a debug type where `?` follows an `x` or an `X`
 unfoldable pub type_of : ℕ → List ℕ → Read FormatType
 type_of size text =
     let c = slice_index text 0 in
     let rest = drop 1 text in
     if length text == 0 || c == byte "}" then Ok (Display, text) else
-    (if c == byte "?" then Ok (Debug, rest) else
-    (if c == byte "x" then Ok (hex_of rest LowerHex DebugLowerHex) else
-    (if c == byte "X" then Ok (hex_of rest UpperHex DebugUpperHex) else
-    (if c == byte "o" then Ok (Octal, rest) else
-    (if c == byte "b" then Ok (Binary, rest) else
-    (if c == byte "e" then Ok (LowerExp, rest) else
-    (if c == byte "E" then Ok (UpperExp, rest) else
-    (if c == byte "p" then Ok (Pointer, rest) else
-    Err (unreadable (between size text rest) (quoting (codes "unknown format type: ") (encode_utf8 c)))))))))))
+    (if c == byte "x" && begins rest (byte "?") then Ok (DebugLowerHex, drop 1 rest) else
+    (if c == byte "X" && begins rest (byte "?") then Ok (DebugUpperHex, drop 1 rest) else
+    ok_or (option_map (λ t. (t, rest)) (type_by c)) (unreadable (between size text rest) (quoting (codes "unknown format type: ") (encode_utf8 c)))))

@@ -44,16 +44,11 @@ options_of size text =
 unfoldable pub spec_of : ℕ → List ℕ → Read FormatSpec
 spec_of size text = if begins text (byte ":") then options_of size (drop 1 text) else Ok (no_options, text)
 
--- the placeholder of these parts, where its `}` follows them
-abbrev pub closed : ℕ → List ℕ → Argument → FormatSpec × List ℕ → Read Placeholder
-closed size text argument (spec, rest) =
-    if begins rest (byte "}")
-    then Ok (record { argument = argument; spec = spec; span = between size text (drop 1 rest) }, drop 1 rest)
-    else Err (unreadable (between size text rest) (codes "unmatched `{`"))
-
--- the placeholder whose `{` the text begins with
+-- the placeholder whose `{` the text begins with; its `}` follows the parts
 unfoldable pub placeholder_of : ℕ → List ℕ → Read Placeholder
 placeholder_of size text =
     argument_of size (drop 1 text) >>= λ argument.
     spec_of size argument.1 >>= λ spec.
-    closed size text argument.0 spec
+    if begins spec.1 (byte "}")
+    then Ok (record { argument = argument.0; spec = spec.0; span = between size text (drop 1 spec.1) }, drop 1 spec.1)
+    else Err (unreadable (between size text spec.1) (codes "unmatched `{`"))

@@ -7,13 +7,13 @@ use Rattle.formatx.specs.declared.ast.FormatType.TheVariants.{Display}
 use Rattle.formatx.specs.declared.ast.Argument.{Argument}
 use Rattle.formatx.specs.declared.ast.Argument.TheVariants as Of
 use Rattle.formatx.specs.declared.ast.Count.{Count}
-use Rattle.formatx.specs.declared.ast.Count.TheVariants.{Literal as Number, Param}
-use Rattle.formatx.specs.declared.ast.CountParam.TheVariants.{Positional, Named}
+use Rattle.formatx.specs.declared.ast.Count.TheVariants.{Param}
+use Rattle.formatx.specs.declared.ast.CountParam.TheVariants.{Named}
 use Rattle.formatx.specs.declared.ast.Precision.{Precision}
 use Rattle.formatx.specs.declared.ast.Precision.TheVariants.{Count as Counted, Star}
 use Rattle.formatx.specs.declared.ast.Placeholder.{Placeholder}
 use Rattle.formatx.specs.declared.ast.Segment.{Segment}
-use Rattle.formatx.specs.declared.ast.Segment.TheVariants.{Literal, EscapedOpen, EscapedClose, Placeholder as Placed}
+use Rattle.formatx.specs.declared.ast.Segment.TheVariants.{Literal, Placeholder as Placed}
 
 -- the span lies in the text, and begins and ends between characters
 pub record SpanFits (source : List ℕ) (s : Span) : Type 0 where
@@ -23,15 +23,13 @@ pub record SpanFits (source : List ℕ) (s : Span) : Type 0 where
 
 -- the span of an argument's name fits the text
 abbrev pub ArgumentFits : List ℕ → Argument → Type 0
-ArgumentFits source Of.Implicit = ⊤
-ArgumentFits source (Of.Positional n) = ⊤
 ArgumentFits source (Of.Named s) = SpanFits source s
+ArgumentFits source _ = ⊤
 
 -- the span of a count's name fits the text
 abbrev pub CountFits : List ℕ → Count → Type 0
-CountFits source (Number n) = ⊤
-CountFits source (Param (Positional n)) = ⊤
 CountFits source (Param (Named s)) = SpanFits source s
+CountFits source _ = ⊤
 
 -- the span of a precision's name fits the text
 abbrev pub PrecisionFits : List ℕ → Precision → Type 0
@@ -52,36 +50,25 @@ pub record PlaceholderFits (source : List ℕ) (p : Placeholder) : Type 0 where
 -- each span of the segment fits the text
 abbrev pub SegmentFits : List ℕ → Segment → Type 0
 SegmentFits source (Literal s) = SpanFits source s
-SegmentFits source EscapedOpen = ⊤
-SegmentFits source EscapedClose = ⊤
 SegmentFits source (Placed p) = PlaceholderFits source p
+SegmentFits source _ = ⊤
 
 -- each span of each segment fits the text
 abbrev pub Fits : List ℕ → List Segment → Type 0
 Fits source segments = All (SegmentFits source) segments
 
--- the segment stands at place i: a literal and a placeholder at their span, an escape in two bytes
-abbrev pub StandsAt : ℕ → ℕ → Segment → Type 0
-StandsAt i j (Literal s) = (s.start ≡ i) × (s.end ≡ j)
-StandsAt i j EscapedOpen = j ≡ i + 2
-StandsAt i j EscapedClose = j ≡ i + 2
-StandsAt i j (Placed p) = (p.span.start ≡ i) × (p.span.end ≡ j)
-
--- the segments stand one right after another, from place i up to the end of the source
+-- the segments stand one right after another, from place i up to the end of the source: a literal and a placeholder at their
+-- span, an escape in two bytes
 abbrev pub Tiles : ℕ → ℕ → List Segment → Type 0
 Tiles size i [] = i ≡ size
-Tiles size i (s ∷ ss) = (j : ℕ) × StandsAt i j s × Tiles size j ss
-
--- no option is given
-pub record HasNoOptions (spec : FormatSpec) : Type 0 where
-  pub fill : spec.fill ≡ None
-  pub align : spec.align ≡ None
-  pub sign : spec.sign ≡ None
-  pub alternate : spec.alternate ≡ false
-  pub zero_pad : spec.zero_pad ≡ false
-  pub width : spec.width ≡ None
-  pub precision : spec.precision ≡ None
+Tiles size i (Literal s ∷ ss) = (s.start ≡ i) × Tiles size s.end ss
+Tiles size i (Placed p ∷ ss) = (p.span.start ≡ i) × Tiles size p.span.end ss
+Tiles size i (_ ∷ ss) = Tiles size (i + 2) ss
 
 -- no options at all, and Display
 abbrev pub no_options : FormatSpec
 no_options = record { fill = None; align = None; sign = None; alternate = false; zero_pad = false; width = None; precision = None; format_type = Display }
+
+-- no option is given, whatever the type
+abbrev pub HasNoOptions : FormatSpec → Type 0
+HasNoOptions spec = spec ≡ record no_options { format_type = spec.format_type }

@@ -1,12 +1,11 @@
 -- Templates and renderers as callers see them.
-use Rattle.std.specs.Prelude.{◌≡◌, map, ℕ, List, [], ◌∷◌, ◌++◌, Bool}
+use Rattle.std.specs.Prelude.{◌≡◌, flat_map, ℕ, List, [], ◌∷◌}
 use Rattle.formatx.specs.Grammar.{Spells}
-use Rattle.formatx.specs.Values.{Meaning}
-use Rattle.formatx.specs.Scene.{Scene, covered, named}
+use Rattle.formatx.specs.Scene.{covered}
 use Rattle.formatx.specs.declared.ast.Argument.{Argument}
-use Rattle.formatx.specs.declared.ast.Argument.TheVariants.{Implicit, Positional, Named}
+use Rattle.formatx.specs.declared.ast.Argument.TheVariants.{Named}
 use Rattle.formatx.specs.declared.ast.Segment.{Segment}
-use Rattle.formatx.specs.declared.ast.Segment.TheVariants.{Literal, EscapedOpen, EscapedClose, Placeholder as Placed}
+use Rattle.formatx.specs.declared.ast.Segment.TheVariants.{Placeholder as Placed}
 
 -- a renderer: the source of its template, its values in order, and its names
 pub record Filling (V : Type 0) : Type 0 where
@@ -14,27 +13,19 @@ pub record Filling (V : Type 0) : Type 0 where
   pub values : List V
   pub names : List (List ℕ × ℕ)
 
--- what a renderer prints over, whose values mean what `meaning` says
-abbrev pub filled : {V : Type 0} → (V → Meaning) → Filling V → Bool → Scene
-filled meaning r strict = record { source = r.source; values = map meaning r.values; names = named r.names; strict = strict }
-
 -- the name of an argument, if it has one
 abbrev pub argument_names : List ℕ → Argument → List (List ℕ)
-argument_names source Implicit = []
-argument_names source (Positional i) = []
 argument_names source (Named s) = covered source s ∷ []
+argument_names source _ = []
 
 -- the name of a segment's argument, if it is a placeholder whose argument has one
 abbrev pub segment_names : List ℕ → Segment → List (List ℕ)
 segment_names source (Placed p) = argument_names source p.argument
-segment_names source (Literal s) = []
-segment_names source EscapedOpen = []
-segment_names source EscapedClose = []
+segment_names source _ = []
 
 -- the names of the placeholders in order, repeats kept; names of counts aren't among them
 abbrev pub names_in : List ℕ → List Segment → List (List ℕ)
-names_in source [] = []
-names_in source (s ∷ ss) = segment_names source s ++ names_in source ss
+names_in source segments = flat_map (segment_names source) segments
 
 -- these are the names in a source: those in the segments that it spells
 abbrev pub HasNames : List ℕ → List (List ℕ) → Type 0

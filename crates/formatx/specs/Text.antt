@@ -1,11 +1,12 @@
 -- What a template prints over values: the text of each segment in order, up to the first fault.
 use Rattle.std.specs.Prelude.{◌≡◌, ℕ, ◌+◌, List, [], ◌∷◌, ◌++◌, codes, if◌then◌else◌, Option, Some, None, Result, Ok, Err}
+use Rattle.std.specs.Option.{option_map_or}
 use Rattle.formatx.specs.Fault.{Fault, missing, unsupported, ◌>>=◌}
 use Rattle.formatx.specs.Grammar.{Spells}
 use Rattle.formatx.specs.Values.{Meaning}
 use Rattle.formatx.specs.Field.{field_text}
 use Rattle.formatx.specs.declared.error.Error.{Error}
-use Rattle.formatx.specs.declared.error.Error.TheVariants.{Parse, MissingArgument, UnsupportedTrait, NoMemory}
+use Rattle.formatx.specs.declared.error.Error.TheVariants.{NoMemory}
 use Rattle.formatx.specs.declared.ast.Span.{Span}
 use Rattle.formatx.specs.declared.ast.FormatType.{FormatType}
 use Rattle.formatx.specs.declared.ast.FormatType.TheVariants.{Display, Debug, DebugLowerHex, DebugUpperHex}
@@ -33,9 +34,8 @@ present_text scene p precision m =
 
 -- a value that may be missing
 abbrev pub argument_text : Scene → ℕ → Placeholder → Option ℕ → Option Meaning → Result (List ℕ) Fault
-argument_text scene next p precision (Some m) = present_text scene p precision m
-argument_text scene next p precision None =
-    if scene.strict then Err (missing (argument_name scene.source next p.argument) p.span) else Ok []
+argument_text scene next p precision value =
+    option_map_or (present_text scene p precision) value (if scene.strict then Err (missing (argument_name scene.source next p.argument) p.span) else Ok [])
 
 -- a placeholder: precision, argument, width, type, text, in this order
 abbrev pub placeholder_text : Scene → ℕ → Placeholder → Result (List ℕ) Fault
@@ -54,9 +54,7 @@ segment_text scene next (Placed p) = placeholder_text scene next p
 -- how many implicit positions a segment takes
 abbrev pub segment_takes : Segment → ℕ
 segment_takes (Placed p) = precision_takes p.spec.precision + argument_takes p.argument
-segment_takes (Plain s) = 0
-segment_takes EscapedOpen = 0
-segment_takes EscapedClose = 0
+segment_takes _ = 0
 
 -- a text, and the fault that ended it, if there was one
 pub record Outcome : Type 0 where
@@ -74,13 +72,8 @@ rendered scene next [] = record { text = []; fault = None }
 rendered scene next (s ∷ ss) = continued (segment_text scene next s) (rendered scene (next + segment_takes s) ss)
 
 -- the whole text, or the first fault
-abbrev pub text_unless : List ℕ → Option Fault → Result (List ℕ) Fault
-text_unless text None = Ok text
-text_unless text (Some fault) = Err fault
-
--- the outcome as a result
 abbrev pub whole : Outcome → Result (List ℕ) Fault
-whole o = text_unless o.text o.fault
+whole o = option_map_or (λ fault. Err fault) o.fault (Ok o.text)
 
 -- a source prints this over a scene: what the segments that it spells print
 abbrev pub Prints : Scene → Result (List ℕ) Fault → Type 0
@@ -89,9 +82,7 @@ Prints scene r = (segments : List Segment) × Spells scene.source segments × (w
 -- what an output holds after a refusal: the text before the fault, or where there was no memory a front of the text
 abbrev pub Holds : Error → List ℕ → List ℕ → List ℕ → Type 0
 Holds NoMemory old new text = (front : List ℕ) × (back : List ℕ) × (new ≡ old ++ front) × (text ≡ front ++ back)
-Holds (Parse s message) old new text = new ≡ old ++ text
-Holds (MissingArgument name s) old new text = new ≡ old ++ text
-Holds (UnsupportedTrait t s) old new text = new ≡ old ++ text
+Holds _ old new text = new ≡ old ++ text
 
 -- a text was appended, which is what the definition gives
 abbrev pub Appends : Result (List ℕ) Fault → List ℕ → List ℕ → Type 0

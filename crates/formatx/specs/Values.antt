@@ -1,6 +1,9 @@
 -- What the carried values mean: their texts, and the shapes that say how a text is padded.
 use Rattle.std.specs.Prelude.{◌≡◌, ℕ, Bool, true, false, ◌||◌, List, [], ◌∷◌, ◌++◌, codes, chars, encode_utf8, ◌==◌, nat_lt, flat_map, ℤ, pos, negsuc, suc, if◌then◌else◌}
 use Rattle.std.specs.Str.{byte}
+use Rattle.std.specs.List.{zip}
+use Rattle.std.specs.Map.{lookup}
+use Rattle.std.specs.Option.{option_map_or}
 use Rattle.numerals.specs.Numeral.{numeral}
 use Rattle.formatx.specs.declared.value.Shape.{Shape}
 use Rattle.formatx.specs.declared.value.Shape.TheVariants.{Integer, Text, Raw}
@@ -31,23 +34,19 @@ integer_meaning n bits = record { display = decimal_of n; debug = integer_debug 
 
 -- a truth value is written in words
 abbrev pub bool_text : Bool → List ℕ
-bool_text true = codes "true"
-bool_text false = codes "false"
+bool_text b = if b then codes "true" else codes "false"
 
 -- a truth value is a text, the same for debugging
 abbrev pub bool_meaning : Bool → Meaning
 bool_meaning b = record { display = bool_text b; debug = λ _. bool_text b; display_shape = Text; debug_shape = Text }
 
--- a character between quotes: the quote and the backslash after a backslash, control characters by a letter or by
+-- a character between quotes: the quote and the backslash after a backslash, four control characters by a letter, the others by
 -- their hexadecimal digits, and every other character as it is
 abbrev pub escaped : ℕ → ℕ → List ℕ
 escaped quote c =
     if c == quote || c == byte "\\" then byte "\\" ∷ c ∷ [] else
-    (if c == 0 then codes "\\0" else
-    (if c == 9 then codes "\\t" else
-    (if c == 13 then codes "\\r" else
-    (if c == 10 then codes "\\n" else
-    (if nat_lt c 32 || c == 127 then codes "\\u{" ++ numeral 16 false c ++ codes "}" else encode_utf8 c)))))
+    option_map_or (λ letter. byte "\\" ∷ letter ∷ []) (lookup (λ k. c == k) (zip (0 ∷ 9 ∷ 13 ∷ 10 ∷ []) (codes "0trn")))
+    (if nat_lt c 32 || c == 127 then codes "\\u{" ++ numeral 16 false c ++ codes "}" else encode_utf8 c)
 
 -- characters between quotes
 abbrev pub quoted : ℕ → List ℕ → List ℕ

@@ -1,8 +1,8 @@
 -- The words of a template: single bytes, runs of bytes, and the numbers that digits write.
-use Rattle.std.specs.Prelude.{ℕ, ◌^◌, Bool, true, ◌&&◌, ◌||◌, not, List, [], ◌∷◌, length, slice_index, drop, ◌==◌, nat_lt, if◌then◌else◌, Option, Some, None}
+use Rattle.std.specs.Prelude.{ℕ, ◌^◌, Bool, ◌&&◌, ◌||◌, not, List, length, slice_index, drop, ◌==◌, nat_lt, if◌then◌else◌, Option, Some, None}
 use Rattle.std.specs.List.{prefix_len}
-use Rattle.std.specs.Char.{digit_value, is_ascii_alphabetic, is_ascii_alphanumeric}
-use Rattle.std.specs.Str.{byte}
+use Rattle.std.specs.Char.{is_ascii_alphabetic, is_ascii_alphanumeric}
+use Rattle.std.specs.Str.{byte, all_ascii_digits}
 use Rattle.std.specs.Str.Parse.{digits_value, without_leading_plus}
 
 -- whether the text begins with byte c, which isn't 0
@@ -25,17 +25,8 @@ is_word_start c = is_ascii_alphabetic c || c == byte "_"
 abbrev pub is_word : ℕ → Bool
 is_word c = is_ascii_alphanumeric c || c == byte "_"
 
--- a byte that a type begins with
-abbrev pub is_type_start : ℕ → Bool
-is_type_start c = c == byte "?" || c == byte "o" || c == byte "x" || c == byte "X" || c == byte "b" || c == byte "e" || c == byte "E" || c == byte "p"
-
--- the text is decimal digits alone
-abbrev pub all_digits : List ℕ → Bool
-all_digits [] = true
-all_digits (c ∷ cs) = nat_lt (digit_value c) 10 && all_digits cs
-
 -- the number that a text writes: an optional `+` and one digit or more, below 2 ^ 64
 abbrev pub usize_of : List ℕ → Option ℕ
 usize_of text =
     let digits = without_leading_plus text in
-    if (nat_lt 0 (length digits) && all_digits digits) && nat_lt (digits_value 10 digits) (2 ^ 64) then Some (digits_value 10 digits) else None
+    if (nat_lt 0 (length digits) && all_ascii_digits digits) && nat_lt (digits_value 10 digits) (2 ^ 64) then Some (digits_value 10 digits) else None

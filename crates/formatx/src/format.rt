@@ -7,7 +7,8 @@ ghost use Rattle.formatx.specs.Spans.{ArgumentFits, CountFits, Fits, Placeholder
 ghost use Rattle.formatx.specs.Field.{aligned, body_of, by_shape, cut, field_text, gap_of, number_body, padding_of, shape_by, shaped, sign_text, text_by};
 ghost use Rattle.formatx.specs.Scene.{covered, scene_over};
 ghost use Rattle.formatx.specs.Inner.Scenes.{scene_of};
-ghost use Rattle.formatx.specs.Counts.{count_at_position, count_of, number_of, precision_of, star_precision, width_of};
+ghost use Rattle.formatx.specs.Counts.{count_at_position, count_of, precision_of, star_precision, width_of};
+ghost use Rattle.formatx.specs.Inner.Parts.{number_of};
 ghost use Rattle.formatx.specs.Arguments.{argument_name, argument_takes, position_at, precision_takes, value_at};
 ghost use Rattle.formatx.specs.Text.{Appends, Holds, placeholder_text, present_text, rendered, segment_takes, segment_text, argument_text, supported, whole};
 
@@ -37,7 +38,7 @@ const NOWHERE: Span = Span { start: 0, end: 0 };
 
 // The number that a value's text writes.
 fn number_of<V: FormatValue>(alloc: Global, words: &str, value: &V) -> Result<usize, Error>
-    ensures { Answers (λ a. a) (number_of words.now (V.meaning value.now)) result }
+    ensures { Answers (λ a. a) (number_of words.now (V.meaning value.now).display) result }
 {
     let mut text = String::new(alloc);
     value.display(&mut text)?;

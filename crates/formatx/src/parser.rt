@@ -1,16 +1,17 @@
 // Reads a template: one function for each part of the grammar, which answers the part in front of a text and what follows it.
-ghost use Rattle.std.specs.Prelude.{◌≡◌, ◌<◌, ◌≤◌, false, true, drop, IfErr, IfNone, IfOk, IfSome, IsTrue, Ok, Some, length, slice_index, string_bytes, codes, encode_utf8, MatchOption, ⊤};
+ghost use Rattle.std.specs.Prelude.{◌≡◌, ◌<◌, ◌≤◌, false, true, drop, IfErr, IfNone, IfOk, IfSome, IsTrue, Ok, Some, is_some, length, slice_index, string_bytes, codes, encode_utf8, MatchOption, ⊤};
 ghost use Rattle.std.specs.Char.{is_ascii_digit, len_utf8};
 ghost use Rattle.std.specs.List.{prefix_len, take_while};
 ghost use Rattle.std.specs.Str.{IsCharBoundary};
 ghost use Rattle.formatx.specs.Fault.{Tells, between, quoting, unreadable};
-ghost use Rattle.formatx.specs.Words.{after, begins, is_plain, is_type_start, is_word, is_word_start, usize_of};
-ghost use Rattle.formatx.specs.Options.{align_by, alternate_of, count_of, fill_align_of, first_char, follows_zero, hex_of, number_count_of, number_in, precision_of, sign_of, type_of, zero_of};
+ghost use Rattle.formatx.specs.Words.{after, begins, is_plain, is_word, is_word_start, usize_of};
+ghost use Rattle.formatx.specs.Options.{align_by, alternate_of, count_of, fill_align_of, first_char, follows_zero, number_count_of, number_in, precision_of, sign_of, type_by, type_of, zero_of};
 ghost use Rattle.formatx.specs.Placeholders.{argument_of, follows_argument, options_of, placeholder_of, spec_of};
 ghost use Rattle.formatx.specs.Grammar.{BeginsWithFault, HasFault, IsSegment, IsTemplate, Spells};
 ghost use Rattle.formatx.specs.Spans.{ArgumentFits, CountFits, Fits, PlaceholderFits, PrecisionFits, SegmentFits, SpanFits, SpecFits, Tiles};
 ghost use Rattle.formatx.specs.Inner.Answers.{Answers};
 ghost use Rattle.formatx.specs.Inner.Ends.{IsEnd};
+ghost use Rattle.formatx.specs.Inner.Parts.{hex_of};
 
 use crate::ast::{
     Align, Argument, Count, CountParam, FormatSpec, FormatString, FormatType, Placeholder,
@@ -277,7 +278,7 @@ fn alternate(text: &str) -> (bool, &str)
 }
 
 fn is_type_start(byte: u8) -> bool
-    ensures { result ≡ is_type_start byte }
+    ensures { result ≡ is_some (type_by byte) }
 {
     matches!(byte, b'?' | b'o' | b'x' | b'X' | b'b' | b'e' | b'E' | b'p')
 }

@@ -1,8 +1,7 @@
 // A template with its values.
 ghost use Rattle.std.specs.Prelude.{◌≡◌, ◌++◌, ◌∷◌, [], IfErr, IfOk, OnErr, OnOk, Err, Ok, true, false, length, string_bytes};
 ghost use Rattle.formatx.specs.Fault.{Tells};
-ghost use Rattle.formatx.specs.Scene.{named, with_name};
-ghost use Rattle.formatx.specs.Templates.{filled};
+ghost use Rattle.formatx.specs.Scene.{named, scene_over, with_name};
 ghost use Rattle.formatx.specs.Text.{Prints};
 
 use crate::error::Error;
@@ -95,23 +94,23 @@ impl<'a, V: FormatValue> Renderer<'a, V> {
 
     /// The template's text. A missing value is refused.
     pub fn finish(&self) -> Result<String, Error>
-        ensures ok { IfOk result (λ text. Prints (filled V.meaning self.now true) (Ok (string_bytes text))) }
-        ensures err { IfErr result (λ e. Tells e (λ fault. Prints (filled V.meaning self.now true) (Err fault))) }
+        ensures ok { IfOk result (λ text. Prints (scene_over V.meaning self.now.source self.now.values self.now.names true) (Ok (string_bytes text))) }
+        ensures err { IfErr result (λ e. Tells e (λ fault. Prints (scene_over V.meaning self.now.source self.now.values self.now.names true) (Err fault))) }
     {
         self.finish_by(true)
     }
 
     /// The template's text. A placeholder whose value is missing prints nothing.
     pub fn finish_lenient(&self) -> Result<String, Error>
-        ensures ok { IfOk result (λ text. Prints (filled V.meaning self.now false) (Ok (string_bytes text))) }
-        ensures err { IfErr result (λ e. Tells e (λ fault. Prints (filled V.meaning self.now false) (Err fault))) }
+        ensures ok { IfOk result (λ text. Prints (scene_over V.meaning self.now.source self.now.values self.now.names false) (Ok (string_bytes text))) }
+        ensures err { IfErr result (λ e. Tells e (λ fault. Prints (scene_over V.meaning self.now.source self.now.values self.now.names false) (Err fault))) }
     {
         self.finish_by(false)
     }
 
     fn finish_by(&self, strict: bool) -> Result<String, Error>
-        ensures ok { IfOk result (λ text. Prints (filled V.meaning self.now strict) (Ok (string_bytes text))) }
-        ensures err { IfErr result (λ e. Tells e (λ fault. Prints (filled V.meaning self.now strict) (Err fault))) }
+        ensures ok { IfOk result (λ text. Prints (scene_over V.meaning self.now.source self.now.values self.now.names strict) (Ok (string_bytes text))) }
+        ensures err { IfErr result (λ e. Tells e (λ fault. Prints (scene_over V.meaning self.now.source self.now.values self.now.names strict) (Err fault))) }
     {
         let mut text = String::new(self.alloc);
         self.template.render_into(
