@@ -8,7 +8,7 @@ ghost use Rattle.strfmt.specs.Field.{digits_of, integer_checks, integer_field, p
 ghost use Rattle.strfmt.specs.Spec.{Appends, view_aligned};
 
 use crate::cause::Cause;
-use crate::{Alignment, FmtError, Formatter, Result};
+use crate::{Alignment, Formatter, Result};
 use numerals::{NoMemory, Radix, push_digits};
 use std::alloc::Global;
 
@@ -29,7 +29,7 @@ fn decimal(alloc: Global, negative: bool, magnitude: u128) -> std::result::Resul
     ensures { IfOk result (λ text. string_bytes text ≡ (if negative then codes "-" else []) ++ numeral 10 false magnitude) }
 {
     let sign = if negative { "-" } else { "" };
-    let mut text = String::from_str(alloc, sign).map_err(|_| NoMemory)?;
+    let mut text = String::from_str(alloc, sign)?;
     push_digits(&mut text, magnitude, Radix::Ten, false)?;
     Ok(text)
 }
@@ -102,10 +102,8 @@ impl Formatter<'_> {
         ensures { Appends (unchecked_integer_field self.old.spec (record { negative = negative; magnitude = magnitude; bits = bits })) self.old result self.new }
     {
         let plus = self.sign_plus() && !negative;
-        match digits(*self.text.allocator(), self.ty, negative, magnitude, bits) {
-            Ok(digits) => self.write_padded(front(plus, self.alternate, self.ty), digits.as_str()),
-            Err(NoMemory) => Err(FmtError::NoMemory),
-        }
+        let digits = digits(*self.text.allocator(), self.ty, negative, magnitude, bits)?;
+        self.write_padded(front(plus, self.alternate, self.ty), digits.as_str())
     }
 
     /// Appends an integer as its field, with `Right` as the default alignment.

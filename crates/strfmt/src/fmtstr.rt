@@ -44,9 +44,7 @@ impl Formatter<'_> {
             right,
             fill: self.fill,
         };
-        if field.push(&mut self.text).is_err() {
-            return Err(FmtError::NoMemory);
-        }
+        field.push(&mut self.text)?;
         Ok(())
     }
 
@@ -106,9 +104,7 @@ where
     ensures ok { IfOk result (λ text. (last : F) × IsWalk F.FnMut f fmtstr.now (Ok (string_bytes text)) last) }
     ensures err { IfErr result (λ e. (e ≡ FmtError.NoMemory) ⊎ ((last : F) × IsWalk F.FnMut f fmtstr.now (Err e) last)) }
 {
-    let Ok(template) = Template::new(alloc, fmtstr) else {
-        return Err(FmtError::NoMemory);
-    };
+    let template = Template::new(alloc, fmtstr)?;
     let mut text = String::new(alloc);
     match template.fill(alloc, &mut text, &mut f) {
         Ok(()) => Ok(text),

@@ -7,7 +7,7 @@ ghost use Rattle.strfmt.specs.Spec.{Appends, is_float_type, is_integer_type, is_
 
 use crate::cause::Cause;
 use crate::parts::{self, Parts};
-use crate::{Alignment, FmtError, Result, Sign};
+use crate::{Alignment, Result, Sign};
 use std::alloc::Global;
 use std::marker::Model;
 
@@ -309,7 +309,8 @@ impl<'a> Formatter<'a> {
     pub fn write_str(&mut self, s: &str) -> Result<()>
         ensures { Appends (Ok s.now) self.old result self.new }
     {
-        self.text.push_str(s).map_err(|_| FmtError::NoMemory)
+        self.text.push_str(s)?;
+        Ok(())
     }
 
     /// What was written so far.
@@ -324,9 +325,7 @@ impl<'a> Formatter<'a> {
         ensures { Appends (Ok (codes "{" ++ self.old.pattern ++ codes "}")) self.old result self.new }
     {
         let size = self.pattern.len().saturating_add(2);
-        if self.text.reserve(size).is_err() {
-            return Err(FmtError::NoMemory);
-        }
+        self.text.reserve(size)?;
         self.text.push('{').unwrap();
         self.text.push_str(self.pattern).unwrap();
         self.text.push('}').unwrap();

@@ -24,10 +24,7 @@ impl FromKey for String {
     ghost spells = { λ text key. bytes_eq text (string_bytes key) };
 
     fn from_key(alloc: Global, key: &str) -> std::result::Result<Option<String>, NoMemory> {
-        match String::from_str(alloc, key) {
-            Ok(text) => Ok(Some(text)),
-            Err(_) => Err(NoMemory),
-        }
+        Ok(Some(String::from_str(alloc, key)?))
     }
 }
 

@@ -6,7 +6,7 @@ ghost use Rattle.strfmt.specs.Text.{IsPrinted, filled_by};
 ghost use Rattle.strfmt.specs.Values.{Displays, values};
 
 use crate::cause::no_value;
-use crate::{DisplayStr, FmtError, Formatter, FromKey, Result, strfmt_map};
+use crate::{DisplayStr, Formatter, FromKey, Result, strfmt_map};
 use numerals::NoMemory;
 use std::alloc::Global;
 use std::collections::HashMap;
@@ -20,10 +20,9 @@ fn look_up<'a, K: Hash + Eq + FromKey, D: DisplayStr>(
 ) -> std::result::Result<Option<&'a D>, NoMemory>
     ensures { IfOk result (λ found. option_copied found ≡ get_by (K.spells key.now) vars.entry.now) }
 {
-    match K::from_key(alloc, key) {
-        Ok(Some(key)) => Ok(vars.get(&key)),
-        Ok(None) => Ok(None),
-        Err(NoMemory) => Err(NoMemory),
+    match K::from_key(alloc, key)? {
+        Some(key) => Ok(vars.get(&key)),
+        None => Ok(None),
     }
 }
 
@@ -35,10 +34,9 @@ fn fill<K: Hash + Eq + FromKey, D: DisplayStr>(
 ) -> Result<()>
     ensures { Displays (filled_by (values K.spells D.meaning vars.now f.old.key) f.old) f.old result f.new }
 {
-    match look_up(alloc, vars, f.key) {
-        Ok(Some(value)) => value.display_str(f),
-        Ok(None) => Err(no_value(alloc, f.key)),
-        Err(NoMemory) => Err(FmtError::NoMemory),
+    match look_up(alloc, vars, f.key)? {
+        Some(value) => value.display_str(f),
+        None => Err(no_value(alloc, f.key)),
     }
 }
 

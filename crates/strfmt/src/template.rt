@@ -125,9 +125,10 @@ where
 {
     let mut formatter = pattern.fresh(alloc);
     match f(&mut formatter) {
-        Ok(()) => out
-            .push_str(formatter.text())
-            .map_err(|_| FmtError::NoMemory),
+        Ok(()) => {
+            out.push_str(formatter.text())?;
+            Ok(())
+        }
         Err(error) => Err(error),
     }
 }
@@ -141,10 +142,11 @@ where
     ensures fills { FillsOne F.FnMut f.old segment.now (string_bytes out.old) result (string_bytes out.new) f.new }
 {
     match segment {
-        Segment::Plain(plain) => out.push_str(plain).map_err(|_| FmtError::NoMemory),
-        Segment::Escape(brace) => out.push_str(brace.as_str()).map_err(|_| FmtError::NoMemory),
-        Segment::Pattern(pattern) => fill_pattern(alloc, pattern, out, f),
+        Segment::Plain(plain) => out.push_str(plain)?,
+        Segment::Escape(brace) => out.push_str(brace.as_str())?,
+        Segment::Pattern(pattern) => fill_pattern(alloc, pattern, out, f)?,
     }
+    Ok(())
 }
 
 /// Appends what the segments print one after the other, and then tells the fault.

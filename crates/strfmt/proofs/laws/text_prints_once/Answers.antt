@@ -1,5 +1,5 @@
 use Rattle.strfmt.proofs.CutUnique.{prints_some, prints_once}
-use Rattle.strfmt.proofs.law.text_prints_once.Goals as goal
+use Rattle.strfmt.proofs.laws.text_prints_once.Goals as goal
 
 pub returns : goal.returns
 returns c = record { some = prints_some; once = prints_once }
