@@ -1,3 +1,4 @@
 pub mod Kind
 pub mod Datum
+pub mod Decimal
 pub mod Templates

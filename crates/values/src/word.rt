@@ -15,10 +15,8 @@ impl Word {
     pub fn new(alloc: Global, text: &str) -> Result<Word, NoMemory>
         ensures { IfOk result (λ word. word_text word ≡ text.now) }
     {
-        match text.to_string(alloc) {
-            Ok(text) => Ok(Word { text }),
-            Err(_) => Err(NoMemory),
-        }
+        let text = String::from_str(alloc, text)?;
+        Ok(Word { text })
     }
 
     pub fn as_str(&self) -> &str
