@@ -17,11 +17,10 @@ use Rattle.strfmt.specs.declared.types.FmtError.{FmtError}
 use Rattle.strfmt.specs.declared.types.FmtError.TheVariants.{NoMemory as StrfmtNoMemory}
 use Rattle.strfmt.proofs.PrintLemmas as strfmt_lemma
 use Rattle.formatx.specs.Fault.{Fault as FormatxFault, Tells}
-use Rattle.formatx.specs.Scene.{NamedPosition, named_position, Scene, scene_over}
+use Rattle.formatx.specs.Scene.{Scene, named, scene_over}
 use Rattle.formatx.specs.Text.{Prints as FormatxPrints, AppendsPrinted}
 use Rattle.formatx.specs.Values.{Meaning as FormatxMeaning}
 use Rattle.formatx.specs.declared.error.Error.{Error}
-use Rattle.formatx.specs.declared.value.Name.{Name}
 use Rattle.values.specs.declared.kind.Kind.{Kind}
 use Rattle.values.specs.declared.value.Value.{Value}
 use Rattle.values.specs.Datum.{Datum, each_of, kind_of, datum_of, printf_meaning, value_meaning}
@@ -33,7 +32,6 @@ use Rattle.printer.specs.declared.error.TextError.TheVariants.{Fault as TextFaul
 use Rattle.printer.specs.Fault.{strfmt_told, IsPrintfFault}
 use Rattle.printer.specs.Text.{PrintsBy, named_from, value_at_key}
 use Rattle.printer.specs.Inner.Appending.{AppendsWhere, ElementsPrint, IsCarriedFault, TellsPrintf, TellsStrfmt, TellsFormatx}
-use Rattle.printer.specs.Inner.State.{AreInPlace, name_of}
 use Rattle.printer.proofs.ValueLemmas.{each_value, fault_is_carried}
 
 -- ---- printf
@@ -66,12 +64,12 @@ module _ (elements : List FormatElement) (values : List Value) where
 
 -- ---- strfmt
 
-module _ (text : List ℕ) (names : List Name) (values : List Value) (utf8 : IsUtf8 text) where
+module _ (text : List ℕ) (names : List (List ℕ)) (values : List Value) (utf8 : IsUtf8 text) where
   abbrev pub meanings : List ℕ → Option Meaning
-  meanings key = value_at_key 0 (map name_of names) (each_of strfmt_meaning (map kind_of values) (map datum_of values)) key
+  meanings key = value_at_key 0 names (each_of strfmt_meaning (map kind_of values) (map datum_of values)) key
 
   abbrev StrfmtSays : Result (List ℕ) RenderFault → Type 0
-  StrfmtSays outcome = PrintsBy Strfmt text (map name_of names) (map kind_of values) (map datum_of values) outcome
+  StrfmtSays outcome = PrintsBy Strfmt text names (map kind_of values) (map datum_of values) outcome
 
   strfmt_says : (told : List ℕ) → IsPrinted (λ (t : List ℕ). t) meanings text (Ok told) → StrfmtSays (Ok told)
   strfmt_says told h = (h.0, h.1, ap strfmt_told (sym h.2))
@@ -93,18 +91,18 @@ module _ (text : List ℕ) (names : List Name) (values : List Value) (utf8 : IsU
 
 -- ---- formatx
 
-module _ (text : List ℕ) (names : List Name) (values : List Value) (in_place : AreInPlace names) where
+module _ (text : List ℕ) (names : List (List ℕ)) (values : List Value) (positions : List (List ℕ × ℕ)) (in_place : named positions ≡ named_from 0 names) where
   abbrev scene : Scene
-  scene = scene_over value_format text values names true
+  scene = scene_over value_format text values positions true
 
   abbrev FormatxSays : Result (List ℕ) RenderFault → Type 0
-  FormatxSays outcome = PrintsBy Formatx text (map name_of names) (map kind_of values) (map datum_of values) outcome
+  FormatxSays outcome = PrintsBy Formatx text names (map kind_of values) (map datum_of values) outcome
 
   same_scene : (r : Result (List ℕ) FormatxFault) → FormatxPrints scene r
-      → FormatxPrints (record { source = text; values = each_of formatx_meaning (map kind_of values) (map datum_of values); names = named_from 0 (map name_of names); strict = true }) r
+      → FormatxPrints (record { source = text; values = each_of formatx_meaning (map kind_of values) (map datum_of values); names = named_from 0 names; strict = true }) r
   same_scene r h =
-      subst (λ (ns : List NamedPosition). FormatxPrints (record { source = text; values = each_of formatx_meaning (map kind_of values) (map datum_of values); names = ns; strict = true }) r) in_place
-      (subst (λ (ms : List FormatxMeaning). FormatxPrints (record { source = text; values = ms; names = map named_position names; strict = true }) r) (each_value formatx_meaning values) h)
+      subst (λ (ns : List ℕ → Option ℕ). FormatxPrints (record { source = text; values = each_of formatx_meaning (map kind_of values) (map datum_of values); names = ns; strict = true }) r) in_place
+      (subst (λ (ms : List FormatxMeaning). FormatxPrints (record { source = text; values = ms; names = named positions; strict = true }) r) (each_value formatx_meaning values) h)
 
   pub formatx_text : (old new : List ℕ) → AppendsPrinted scene old new → AppendsWhere FormatxSays old new (Ok tt)
   formatx_text old new (told, prints, grown) = (told, (Ok told, same_scene (Ok told) prints, refl), grown)

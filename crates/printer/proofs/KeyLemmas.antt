@@ -1,72 +1,25 @@
 -- The value that a key names is that at the first of two positions.
-use Rattle.std.proofs.Common.{◌≡◌, ◌≢◌, inl, ℕ, zero, suc, ◌+◌, ◌-◌, ◌<◌, ◌≤◌, ◌^◌, ◌||◌, ◌==◌, Bool, true, false, nat_le, if◌then◌else◌, List, [], ◌∷◌, map, length, get_or, bytes_eq, min, refl, sym, ap, ◌∙◌, subst, arith, Option, Some, None, Result, Ok, Err}
-use Rattle.std.specs.Result.{OkIff, result_ok}
-use Rattle.std.specs.Prelude.{⊤, SomeIff, slice_get, option_and_then}
-use Rattle.std.specs.Char.{digit_value}
+use Rattle.std.proofs.Common.{◌≡◌, ℕ, suc, ◌+◌, ◌-◌, ◌<◌, ◌≤◌, ◌^◌, ◌||◌, ◌==◌, Bool, true, false, nat_le, if◌then◌else◌, List, [], ◌∷◌, ◌++◌, map, length, get_or, take, bytes_eq, min, refl, sym, ap, ◌∙◌, arith, Option, Some, None}
+use Rattle.std.specs.Prelude.{⊤, slice_get, option_and_then}
+use Rattle.std.specs.Option.{option_map, option_or}
 use Rattle.std.specs.Bool.{one_answer}
+use Rattle.std.proofs.Math.Path.{fun_ext}
 use Rattle.std.proofs.lemmas.Bool.Decides.{nat_tests, Decides-like}
-use Rattle.std.proofs.lemmas.Slice.Eq.{bytes_eq-Decides}
-use Rattle.numerals.specs.Numeral.{numeral, AllBelow, IsDigitText, text_value}
-use Rattle.numerals.specs.Laws.{AllOfCase, HasNoLeadingZero}
-use Rattle.numerals.proofs.Reading.{numeral_reads, numeral-text_value}
-use Rattle.numerals.proofs.Steps.{numeral-small, numeral-first, numeral-injective}
-use Rattle.std.specs.Option.{option_map}
-use Rattle.std.proofs.lemmas.List.{length-map}
+use Rattle.std.proofs.lemmas.List.{length-map, length-take-le, map-append, take_more}
 use Rattle.std.proofs.lemmas.Option.{slice_get-map}
+use Rattle.std.proofs.lemmas.Slice.Eq.{bytes_eq-Decides}
+use Rattle.numerals.specs.Numeral.{numeral}
+use Rattle.numerals.proofs.Steps.{numeral-injective}
 use Rattle.strfmt.specs.Text.{Meaning}
-use Rattle.formatx.specs.Scene.{NamedPosition, named_position, position_of}
-use Rattle.formatx.specs.declared.value.Name.{Name}
+use Rattle.formatx.specs.Scene.{with_name}
 use Rattle.values.specs.declared.value.Value.{Value}
-use Rattle.values.specs.Datum.{kind_of, datum_of, each_of}
+use Rattle.values.specs.declared.word.Word.{Word}
+use Rattle.values.specs.Datum.{kind_of, datum_of, each_of, word_text}
+use Rattle.values.specs.Decimal.{IsDecimal}
 use Rattle.values.specs.Templates.{strfmt_meaning, value_display}
 use Rattle.printer.specs.Text.{value_at_key, named_from}
-use Rattle.printer.specs.Inner.State.{AreInPlace, name_of}
+use Rattle.printer.specs.Inner.Keys.{first_of}
 use Rattle.printer.proofs.ValueLemmas.{each_value}
-use Rattle.printer.specs.Inner.Keys.{IsPosition, first_of}
-
--- ---- positions in decimal
-
--- no numeral but that of 0 begins with a zero
-pub no_zero_in_front : (text : List ℕ) (place : ℕ) → place < 2 ^ 64 → 1 < length text → get_or text 0 0 ≡ 48 → text ≢ numeral 10 false place
-no_zero_in_front text zero small long first e =
-    let one : numeral 10 false 0 ≡ _ ∷ [] = numeral-small 10 0 false (omega arith) (omega arith) (omega arith) in
-    absurd (omega (arith, long, ap length e, ap length one))
-no_zero_in_front text (suc k) small long first e =
-    numeral-first 10 (suc k) false (omega arith) (omega (arith, small)) (omega arith) (ap (λ (t : List ℕ). get_or t 0 0) (sym e) ∙ first)
-
-digit_is_low : (c : ℕ) → digit_value c < 10 → c < 65
-digit_is_low c h = grind (arith, nat_tests)
-
-digits_of_case : (text : List ℕ) → AllBelow 10 (map digit_value text) → AllOfCase false text
-digits_of_case [] h = tt
-digits_of_case (c ∷ cs) h = (inl (digit_is_low c h.0), digits_of_case cs h.1)
-
--- a text whose digits stand for no number is no numeral
-pub no_digits : (text : List ℕ) → SomeIff {T = ℕ} None (IsDigitText 10 text × (text_value 10 text < 2 ^ 128)) (text_value 10 text) → IsPosition text None
-no_digits text none place small e =
-    let reads = numeral_reads 10 place false (omega arith) (omega arith) (omega (arith, small)) in
-    let value : text_value 10 text ≡ place = ap (text_value 10) e ∙ reads.1 in
-    none (subst (IsDigitText 10) (sym e) reads.0, omega (arith, value, small))
-
--- digits without a zero in front are the numeral of their number, if that isn't too large
-pub is_position : (text : List ℕ) (number : ℕ) → SomeIff (Some number) (IsDigitText 10 text × (text_value 10 text < 2 ^ 128)) (text_value 10 text) → HasNoLeadingZero text → number < 2 ^ 64 → IsPosition text (Some number)
-is_position text number is lead small =
-    let own : text ≡ numeral 10 false (text_value 10 text) = numeral-text_value 10 false text (omega arith) (omega arith) is.0.0 (digits_of_case text is.0.0.1) lead is.0.1 in
-    (small, own ∙ ap (numeral 10 false) (sym is.1))
-
-pub no_position : (text : List ℕ) (number : ℕ) → SomeIff (Some number) (IsDigitText 10 text × (text_value 10 text < 2 ^ 128)) (text_value 10 text) → 2 ^ 64 ≤ number → IsPosition text None
-no_position text number is large place small e =
-    let reads = numeral_reads 10 place false (omega arith) (omega arith) (omega (arith, small)) in
-    let value : text_value 10 text ≡ place = ap (text_value 10) e ∙ reads.1 in
-    absurd (omega (arith, value, is.1, large, small))
-
--- the number as a position, where it fits one
-pub fitted : {E : Type 0} (text : List ℕ) (number : ℕ) (r : Result ℕ E) → OkIff r (number < 2 ^ 64) number → SomeIff (Some number) (IsDigitText 10 text × (text_value 10 text < 2 ^ 128)) (text_value 10 text) → HasNoLeadingZero text → IsPosition text (result_ok r)
-fitted text number (Ok n) h is lead = subst (λ (k : ℕ). IsPosition text (Some k)) (sym h.1) (is_position text number is lead h.0)
-fitted text number (Err e) h is lead = no_position text number is (large h)
-  where
-    large : ¬ (number < 2 ^ 64) → 2 ^ 64 ≤ number
-    large not_small = grind arith
 
 -- ---- the first of two positions
 
@@ -100,7 +53,7 @@ from-zero None = refl
 from-zero (Some n) = grind (arith, nat_tests)
 
 -- the key is the numeral of the place where its number is the place
-numbered : (key : List ℕ) (number : Option ℕ) (place : ℕ) → IsPosition key number → place < 2 ^ 64 → bytes_eq key (numeral 10 false place) ≡ hits place number
+numbered : (key : List ℕ) (number : Option ℕ) (place : ℕ) → IsDecimal key number → place < 2 ^ 64 → bytes_eq key (numeral 10 false place) ≡ hits place number
 numbered key None place none small = not_equal (bytes_eq key (numeral 10 false place)) (bytes_eq-Decides key (numeral 10 false place)).0
   where
     not_equal : (test : Bool) → (test ≡ true → key ≡ numeral 10 false place) → test ≡ false
@@ -125,10 +78,10 @@ chosen_is_from : (place : ℕ) (test : Bool) (o : Option ℕ) → IsFrom place o
 chosen_is_from place true o h = omega arith
 chosen_is_from place false o h = h
 
-named_is_from : (place : ℕ) (names : List (List ℕ)) (key : List ℕ) → IsFrom place (position_of key (named_from place names))
+named_is_from : (place : ℕ) (names : List (List ℕ)) (key : List ℕ) → IsFrom place (named_from place names key)
 named_is_from place [] key = tt
 named_is_from place (name ∷ names) key =
-    chosen_is_from place (bytes_eq name key) (position_of key (named_from (place + 1) names)) (IsFrom-earlier place (place + 1) (position_of key (named_from (place + 1) names)) (omega arith) (named_is_from (place + 1) names key))
+    chosen_is_from place (bytes_eq name key) (named_from (place + 1) names key) (IsFrom-earlier place (place + 1) (named_from (place + 1) names key) (omega arith) (named_is_from (place + 1) names key))
 
 -- the value at an absolute position
 abbrev at : {A : Type 0} → ℕ → List A → Option ℕ → Option A
@@ -160,10 +113,10 @@ or_false : (a : Bool) → (a || false) ≡ a
 or_false true = refl
 or_false false = refl
 
-found_from : {A : Type 0} (place : ℕ) (names : List (List ℕ)) (values : List A) (key : List ℕ) (number : Option ℕ) → IsPosition key number → place + length values ≤ 2 ^ 64
-    → value_at_key place names values key ≡ at place values (first_of (from place number) (position_of key (named_from place names)))
+found_from : {A : Type 0} (place : ℕ) (names : List (List ℕ)) (values : List A) (key : List ℕ) (number : Option ℕ) → IsDecimal key number → place + length values ≤ 2 ^ 64
+    → value_at_key place names values key ≡ at place values (first_of (from place number) (named_from place names key))
 found_from place [] [] key number is short = sym (at-none place (first_of (from place number) None))
-found_from place (name ∷ names) [] key number is short = sym (at-none place (first_of (from place number) (position_of key (named_from place (name ∷ names)))))
+found_from place (name ∷ names) [] key number is short = sym (at-none place (first_of (from place number) (named_from place (name ∷ names) key)))
 found_from {A = A} place [] (value ∷ values) key number is short =
     let rest : Option A = value_at_key (place + 1) [] values key in
     let test : bytes_eq key (numeral 10 false place) ≡ (hits place number || false) = numbered key number place is (omega (arith, short)) ∙ sym (or_false (hits place number)) in
@@ -172,19 +125,19 @@ found_from {A = A} place [] (value ∷ values) key number is short =
     ∙ ap (λ (o : Option ℕ). at place (value ∷ values) (first_of o None)) (sym (from-step place number))
 found_from {A = A} place (name ∷ names) (value ∷ values) key number is short =
     let rest : Option A = value_at_key (place + 1) names values key in
-    let later : Option ℕ = position_of key (named_from (place + 1) names) in
+    let later : Option ℕ = named_from (place + 1) names key in
     ap (λ (b : Bool). if b || bytes_eq key name then Some value else rest) (numbered key number place is (omega (arith, short)))
     ∙ ap (λ (b : Bool). if hits place number || b then Some value else rest) (equal_either_way key name)
     ∙ step value values place (hits place number) (bytes_eq name key) (from (place + 1) number) later rest (from-is (place + 1) number) (named_is_from (place + 1) names key) (found_from (place + 1) names values key number is (omega (arith, short)))
     ∙ ap (λ (o : Option ℕ). at place (value ∷ values) (first_of o (if bytes_eq name key then Some place else later))) (sym (from-step place number))
 
 -- the value at a key is that at the first of its positions, in decimal and by name
-pub found : {A : Type 0} (names : List (List ℕ)) (values : List A) (key : List ℕ) (number : Option ℕ) → IsPosition key number → length values ≤ 2 ^ 64
-    → value_at_key 0 names values key ≡ option_and_then (λ i. slice_get values i) (first_of number (position_of key (named_from 0 names)))
+pub found : {A : Type 0} (names : List (List ℕ)) (values : List A) (key : List ℕ) (number : Option ℕ) → IsDecimal key number → length values ≤ 2 ^ 64
+    → value_at_key 0 names values key ≡ option_and_then (λ i. slice_get values i) (first_of number (named_from 0 names key))
 found {A = A} names values key number is short =
     found_from 0 names values key number is (omega (arith, short))
-    ∙ ap (λ (o : Option ℕ). at 0 values (first_of o (position_of key (named_from 0 names)))) (from-zero number)
-    ∙ start (first_of number (position_of key (named_from 0 names)))
+    ∙ ap (λ (o : Option ℕ). at 0 values (first_of o (named_from 0 names key))) (from-zero number)
+    ∙ start (first_of number (named_from 0 names key))
   where
     start : (o : Option ℕ) → at 0 values o ≡ option_and_then (λ i. slice_get values i) o
     start None = refl
@@ -195,10 +148,42 @@ get-mapped f values None = refl
 get-mapped f values (Some i) = slice_get-map f values i
 
 -- what a value displays is what its key means
-pub value_found : (names : List Name) (values : List Value) (key : List ℕ) (number : Option ℕ) → AreInPlace names → IsPosition key number → length values ≤ 2 ^ 64
-    → option_map value_display (option_and_then (λ i. slice_get values i) (first_of number (position_of key (map named_position names)))) ≡ value_at_key 0 (map name_of names) (each_of strfmt_meaning (map kind_of values) (map datum_of values)) key
-value_found names values key number in_place is short =
-    sym (get-mapped value_display values (first_of number (position_of key (map named_position names))))
-    ∙ ap (λ (ns : List NamedPosition). option_and_then (λ i. slice_get (map value_display values) i) (first_of number (position_of key ns))) in_place
-    ∙ sym (found (map name_of names) (map value_display values) key number is (omega (arith, short, length-map values value_display)))
-    ∙ ap (λ (ms : List Meaning). value_at_key 0 (map name_of names) ms key) (each_value strfmt_meaning values)
+pub value_found : (names : List (List ℕ)) (values : List Value) (key : List ℕ) (number : Option ℕ) → IsDecimal key number → length values ≤ 2 ^ 64
+    → option_map value_display (option_and_then (λ i. slice_get values i) (first_of number (named_from 0 names key))) ≡ value_at_key 0 names (each_of strfmt_meaning (map kind_of values) (map datum_of values)) key
+value_found names values key number is short =
+    sym (get-mapped value_display values (first_of number (named_from 0 names key)))
+    ∙ sym (found names (map value_display values) key number is (omega (arith, short, length-map values value_display)))
+    ∙ ap (λ (ms : List Meaning). value_at_key 0 names ms key) (each_value strfmt_meaning values)
+
+-- ---- a further name
+
+-- a text that is the name stands for its place, where no name in front is the same
+pub named_from-push : (place : ℕ) (names : List (List ℕ)) (name key : List ℕ) → named_from place (names ++ name ∷ []) key ≡ option_or (named_from place names key) (if bytes_eq name key then Some (place + length names) else None)
+named_from-push place [] name key = ap (λ (i : ℕ). if bytes_eq name key then Some i else None) (let e : place ≡ place + 0 = omega arith in e)
+named_from-push place (first ∷ names) name key =
+    ap (λ (o : Option ℕ). if bytes_eq first key then Some place else o) (named_from-push (place + 1) names name key)
+    ∙ either (bytes_eq first key) (named_from (place + 1) names key)
+    ∙ ap (λ (i : ℕ). option_or (named_from place (first ∷ names) key) (if bytes_eq name key then Some i else None)) (let e : place + 1 + length names ≡ place + length (first ∷ names) = omega arith in e)
+  where
+    either : (test : Bool) (later : Option ℕ) → (if test then Some place else option_or later (if bytes_eq name key then Some (place + 1 + length names) else None)) ≡ option_or (if test then Some place else later) (if bytes_eq name key then Some (place + 1 + length names) else None)
+    either true later = refl
+    either false later = refl
+
+-- the words up to a place are the names, and one more is the next name
+pub word_named : (words : List Word) (index : ℕ) (word : Word) (copies : List Word) (copy : Word) → index < length words → map word_text copies ≡ map word_text (take index words) → word_text copy ≡ word_text word → word ≡ get_or words index word
+    → map word_text (copies ++ copy ∷ []) ≡ map word_text (take (index + 1) words)
+word_named words index word copies copy within named same is =
+    map-append word_text copies (copy ∷ [])
+    ∙ ap (λ (ts : List (List ℕ)). ts ++ word_text copy ∷ []) named ∙ ap (λ (t : List ℕ). map word_text (take index words) ++ t ∷ []) (same ∙ ap word_text is)
+    ∙ sym (ap (map word_text) (take_more words index word within) ∙ map-append word_text (take index words) (get_or words index word ∷ []))
+
+pub position_named : (words : List Word) (index : ℕ) (word : Word) (positions : List ℕ → Option ℕ) → index < length words → positions ≡ named_from 0 (map word_text (take index words)) → word ≡ get_or words index word
+    → with_name positions (word_text word) index ≡ named_from 0 (map word_text (take (index + 1) words))
+position_named words index word positions within named is =
+    let texts : map word_text (take (index + 1) words) ≡ map word_text (take index words) ++ word_text word ∷ [] =
+    ap (map word_text) (take_more words index word within) ∙ map-append word_text (take index words) (get_or words index word ∷ []) ∙ ap (λ (w : Word). map word_text (take index words) ++ word_text w ∷ []) (sym is) in
+    let count : index ≡ 0 + length (map word_text (take index words)) = omega (arith, length-map (take index words) word_text, length-take-le index words (omega (arith, within))) in
+    ap (λ (p : List ℕ → Option ℕ). with_name p (word_text word) index) named
+    ∙ ap (with_name (named_from 0 (map word_text (take index words))) (word_text word)) count
+    ∙ fun_ext (λ key. sym (named_from-push 0 (map word_text (take index words)) (word_text word) key))
+    ∙ ap (named_from 0) (sym texts)

@@ -9,7 +9,6 @@ use Rattle.strfmt.specs.Fault.{Outcome}
 use Rattle.strfmt.specs.Text.{Prints as StrfmtPrints}
 use Rattle.formatx.specs.Fault.{Fault}
 use Rattle.formatx.specs.Grammar.{IsTemplate}
-use Rattle.formatx.specs.Scene.{NamedPosition}
 use Rattle.formatx.specs.Text.{Prints as FormatxPrints}
 use Rattle.values.specs.declared.kind.Kind.{Kind}
 use Rattle.values.specs.Datum.{Datum, printf_meaning, each_of}
@@ -36,10 +35,10 @@ value_at_key place names [] key = None
 value_at_key place [] (value ∷ values) key = if bytes_eq key (numeral 10 false place) then Some value else value_at_key (place + 1) [] values key
 value_at_key place (name ∷ names) (value ∷ values) key = if bytes_eq key (numeral 10 false place) || bytes_eq key name then Some value else value_at_key (place + 1) names values key
 
--- Names stand for positions, from one on.
-abbrev pub named_from : ℕ → List (List ℕ) → List NamedPosition
-named_from place [] = []
-named_from place (name ∷ names) = record { name = name; index = place } ∷ named_from (place + 1) names
+-- The position that a key names, from one on: that of the first name that it is.
+abbrev pub named_from : ℕ → List (List ℕ) → List ℕ → Option ℕ
+named_from place [] key = None
+named_from place (name ∷ names) key = if bytes_eq name key then Some place else named_from (place + 1) names key
 
 -- What the template prints, by its dialect: a printf format over the values as arguments; a strfmt text over the map of their keys; a formatx template over positions and names, strictly.
 abbrev pub PrintsBy : Dialect → List ℕ → List (List ℕ) → List Kind → List Datum → Result (List ℕ) RenderFault → Type 0

@@ -8,12 +8,10 @@ ghost use Rattle.values.specs.Templates.{strfmt_meaning};
 ghost use Rattle.printer.specs.Text.{PrintsBy, value_at_key};
 ghost use Rattle.printer.specs.declared.dialect.Dialect.TheVariants as Of;
 ghost use Rattle.printer.specs.Inner.Appending.{AppendsWhere, ElementsPrint};
-ghost use Rattle.printer.specs.Inner.State.{AreInPlace, name_of};
 
 use crate::TextError;
-use crate::keys::value_at;
+use crate::keys::{PositionNames, value_at};
 use crate::told::{formatx_told, printf_told, strfmt_told};
-use formatx::Name;
 use sprintf::parser::FormatElement;
 use sprintf::vsprintfp_into;
 use std::alloc::Global;
@@ -45,12 +43,11 @@ fn no_value(alloc: Global, key: &str) -> FmtError
 /// Displays the value of the formatter's key.
 fn display_at(
     alloc: Global,
-    names: &[Name],
+    names: &PositionNames,
     values: &[Value],
     f: &mut Formatter<'_>,
 ) -> strfmt::Result<()>
-    requires { AreInPlace names.now }
-    ensures { Displays (filled_by (value_at_key 0 (map name_of names.now) (each_of strfmt_meaning (map kind_of values.now) (map datum_of values.now)) f.old.key) f.old) f.old result f.new }
+    ensures { Displays (filled_by (value_at_key 0 names.now (each_of strfmt_meaning (map kind_of values.now) (map datum_of values.now)) f.old.key) f.old) f.old result f.new }
 {
     match value_at(names, values, f.key) {
         Some(value) => value.display_str(f),
@@ -62,17 +59,15 @@ fn display_at(
 pub(crate) fn append_strfmt(
     alloc: Global,
     template: &strfmt::Template<'_>,
-    names: &[Name],
+    names: &PositionNames,
     values: &[Value],
     out: &mut String,
 ) -> Result<(), TextError>
-    requires utf8 { IsUtf8 template.now }
-    requires in_place { AreInPlace names.now }
-    ensures { AppendsWhere (PrintsBy Of.Strfmt template.now (map name_of names.now) (map kind_of values.now) (map datum_of values.now)) (string_bytes out.old) (string_bytes out.new) result }
+    requires { IsUtf8 template.now }
+    ensures { AppendsWhere (PrintsBy Of.Strfmt template.now names.now (map kind_of values.now) (map datum_of values.now)) (string_bytes out.old) (string_bytes out.new) result }
 {
     let mut display = |f: &mut Formatter<'_>| -> strfmt::Result<()>
-        requires { AreInPlace names.now }
-        ensures { Displays (filled_by (value_at_key 0 (map name_of names.entry.now) (each_of strfmt_meaning (map kind_of values.entry.now) (map datum_of values.entry.now)) f.old.key) f.old) f.old result f.new }
+        ensures { Displays (filled_by (value_at_key 0 names.entry.now (each_of strfmt_meaning (map kind_of values.entry.now) (map datum_of values.entry.now)) f.old.key) f.old) f.old result f.new }
     { display_at(alloc, names, values, f) };
     match template.fill(alloc, out, &mut display) {
         Ok(()) => Ok(()),
@@ -84,14 +79,13 @@ pub(crate) fn append_strfmt(
 pub(crate) fn append_formatx(
     alloc: Global,
     template: &formatx::Template,
-    names: &[Name],
+    names: &PositionNames,
     values: &[Value],
     out: &mut String,
 ) -> Result<(), TextError>
-    requires { AreInPlace names.now }
-    ensures { AppendsWhere (PrintsBy Of.Formatx template.now (map name_of names.now) (map kind_of values.now) (map datum_of values.now)) (string_bytes out.old) (string_bytes out.new) result }
+    ensures { AppendsWhere (PrintsBy Of.Formatx template.now names.now (map kind_of values.now) (map datum_of values.now)) (string_bytes out.old) (string_bytes out.new) result }
 {
-    match template.render_into(alloc, out, values, names, true) {
+    match template.render_into(alloc, out, values, names.positions(), true) {
         Ok(()) => Ok(()),
         Err(error) => Err(formatx_told(error)),
     }

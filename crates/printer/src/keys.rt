@@ -1,45 +1,66 @@
 // The value that a key names: by its position in decimal, or by the name of a position.
-ghost use Rattle.std.specs.Prelude.{◌≡◌, ◌<◌, ◌↔◌, IsTrue, length, map, option_copied, option_map, slice_index};
-ghost use Rattle.std.specs.Str.{byte};
-ghost use Rattle.formatx.specs.Scene.{named_position, position_of};
-ghost use Rattle.values.specs.Datum.{datum_of, each_of, kind_of};
+ghost use Rattle.std.specs.Prelude.{◌≡◌, IfOk, map, option_copied, option_map};
+ghost use Rattle.formatx.specs.Scene.{named};
+ghost use Rattle.values.specs.Datum.{datum_of, each_of, kind_of, word_text};
 ghost use Rattle.values.specs.Templates.{strfmt_meaning, value_display};
-ghost use Rattle.printer.specs.Text.{value_at_key};
-ghost use Rattle.printer.specs.Inner.Keys.{IsPosition, first_of};
-ghost use Rattle.printer.specs.Inner.State.{AreInPlace, name_of};
+ghost use Rattle.printer.specs.Text.{named_from, value_at_key};
+ghost use Rattle.printer.specs.Inner.Keys.{first_of};
 
-use formatx::Name;
-use numerals::{Radix, read_digits};
-use values::Value;
+use formatx::Names;
+use numerals::NoMemory;
+use std::alloc::Global;
+use std::marker::Model;
+use values::{Value, Word, read_decimal};
 
-/// Whether a zero stands in front of another byte.
-fn has_leading_zero(digits: &[u8]) -> bool
-    ensures { IsTrue result ↔ ((1 < length digits.now) × (slice_index digits.now 0 ≡ byte "0")) }
-{
-    digits.len() > 1 && digits[0] == b'0'
+/// The names of the first positions. In contracts they are the list of their texts.
+#[derive(Drop)]
+pub(crate) struct PositionNames {
+    words: Vec<Word>,
+    positions: Names,
 }
 
-/// The position that the key is in decimal, without a sign and without a zero in front. It takes no memory.
-fn position_in_decimal(key: &str) -> Option<usize>
-    ensures { IsPosition key.now result }
-{
-    if has_leading_zero(key.as_bytes()) {
-        return None;
-    }
-    let number = read_digits(key, Radix::Ten)?;
-    usize::try_from(number).ok()
+impl Model for PositionNames {
+    ghost use Rattle.std.specs.Prelude.{◌≡◌, List, ℕ, map};
+    ghost use Rattle.values.specs.Datum.{word_text};
+    ghost use Rattle.formatx.specs.Scene.{named};
+    ghost use Rattle.printer.specs.Text.{named_from};
+
+    ghost Value = { List (List ℕ) };
+
+    ghost view = { λ it. map word_text it.words.items };
+
+    ghost invariant = { λ it. named it.positions ≡ named_from 0 (map word_text it.words.items) };
 }
 
-/// The position of the first equal name.
-fn position_named(names: &[Name], key: &str) -> Option<usize>
-    ensures { result ≡ position_of key.now (map named_position names.now) }
-{
-    'names: for entry in names {
-        if entry.name.as_str() == key {
-            return Some(entry.index);
+impl PositionNames {
+    /// The words as names, from the position 0 on.
+    pub(crate) fn new(alloc: Global, words: &[Word]) -> Result<PositionNames, NoMemory>
+        ensures { IfOk result (λ names. names ≡ map word_text words.now) }
+    {
+        let mut copies = Vec::new(alloc);
+        let mut positions = Names::new(alloc);
+        'words: for (index, word) in words.iter().enumerate() {
+            let name = word.as_str();
+            let copy = Word::new(alloc, name)?;
+            if copies.push(copy).is_err() {
+                return Err(NoMemory);
+            }
+            if positions.add(name, index).is_err() {
+                return Err(NoMemory);
+            }
         }
+        Ok(PositionNames {
+            words: copies,
+            positions,
+        })
     }
-    None
+
+    /// The names with their positions.
+    pub(crate) fn positions(&self) -> &Names
+        ensures { named result.now ≡ named_from 0 self.now }
+    {
+        &self.positions
+    }
 }
 
 fn first_of(place: Option<usize>, other: Option<usize>) -> Option<usize>
@@ -53,10 +74,13 @@ fn first_of(place: Option<usize>, other: Option<usize>) -> Option<usize>
 }
 
 /// The value at the first position that the key names.
-pub(crate) fn value_at<'v>(names: &[Name], values: &'v [Value], key: &str) -> Option<&'v Value>
-    requires { AreInPlace names.now }
-    ensures { option_map value_display (option_copied result) ≡ value_at_key 0 (map name_of names.now) (each_of strfmt_meaning (map kind_of values.now) (map datum_of values.now)) key.now }
+pub(crate) fn value_at<'v>(
+    names: &PositionNames,
+    values: &'v [Value],
+    key: &str,
+) -> Option<&'v Value>
+    ensures { option_map value_display (option_copied result) ≡ value_at_key 0 names.now (each_of strfmt_meaning (map kind_of values.now) (map datum_of values.now)) key.now }
 {
-    let place = first_of(position_in_decimal(key), position_named(names, key))?;
+    let place = first_of(read_decimal(key), names.positions().position(key))?;
     values.get(place)
 }

@@ -2,11 +2,11 @@
 ghost use Rattle.std.specs.Prelude.{◌≡◌, ◌++◌, ℕ, List, [], map, IfOk, IfErr, OnOk, OnErr, Ok, string_bytes};
 ghost use Rattle.values.specs.Datum.{kind_of, datum_of, word_text};
 ghost use Rattle.printer.specs.Text.{Prints, IsTemplateOf, RefusesTemplate, RefusesText};
-ghost use Rattle.printer.specs.Inner.State.{AreInPlace, StandsFor, dialect_of, name_of};
+ghost use Rattle.printer.specs.Inner.State.{StandsFor, dialect_of};
 
 use crate::append::{append_formatx, append_printf, append_strfmt};
+use crate::keys::PositionNames;
 use crate::{Dialect, PrinterError, TemplateFault, TextError};
-use formatx::Name;
 use sprintf::PrintfError;
 use sprintf::parser::{FormatElement, parse_format_string};
 use std::alloc::Global;
@@ -26,19 +26,18 @@ enum Parsed<'t> {
 pub struct Printer<'t> {
     text: &'t str,
     parsed: Parsed<'t>,
-    names: Vec<Name>,
+    names: PositionNames,
 }
 
 impl<'t> Model for Printer<'t> {
-    ghost use Rattle.std.specs.Prelude.{map, string_bytes};
     ghost use Rattle.printer.specs.Text.{Printing};
-    ghost use Rattle.printer.specs.Inner.State.{IsSound, dialect_of, name_of};
+    ghost use Rattle.printer.specs.Inner.State.{IsSound, dialect_of};
 
     ghost Value = { Printing };
 
-    ghost view = { λ it. record { dialect = dialect_of it.parsed; template = it.text.now; names = map name_of it.names.items } };
+    ghost view = { λ it. record { dialect = dialect_of it.parsed; template = it.text.now; names = it.names } };
 
-    ghost invariant = { λ it. IsSound it.text.now it.parsed it.names.items };
+    ghost invariant = { λ it. IsSound it.text.now it.parsed };
 }
 
 /// The elements of a printf template.
@@ -60,10 +59,8 @@ fn parse_strfmt(alloc: Global, template: &str) -> Result<Parsed<'_>, PrinterErro
     ensures dialect { IfOk result (λ parsed. dialect_of parsed ≡ Dialect.Strfmt) }
     ensures refused { IfErr result (RefusesTemplate Dialect.Strfmt template.now) }
 {
-    match strfmt::Template::new(alloc, template) {
-        Ok(template) => Ok(Parsed::Strfmt(template)),
-        Err(_) => Err(PrinterError::NoMemory),
-    }
+    let template = strfmt::Template::new(alloc, template)?;
+    Ok(Parsed::Strfmt(template))
 }
 
 /// The segments of a formatx template.
@@ -94,24 +91,6 @@ fn parse<'t>(alloc: Global, dialect: Dialect, template: &'t str) -> Result<Parse
     }
 }
 
-/// The words as names of the positions, from 0 on.
-fn name_positions(alloc: Global, words: &[Word]) -> Result<Vec<Name>, PrinterError>
-    ensures names { IfOk result (λ names. map name_of names.items ≡ map word_text words.now) }
-    ensures in_place { IfOk result (λ names. AreInPlace names.items) }
-    ensures memory { IfErr result (λ e. e ≡ PrinterError.NoMemory) }
-{
-    let mut names = Vec::new(alloc);
-    'words: for (index, word) in words.iter().enumerate() {
-        let Ok(name) = String::from_str(alloc, word.as_str()) else {
-            return Err(PrinterError::NoMemory);
-        };
-        if names.push(Name { name, index }).is_err() {
-            return Err(PrinterError::NoMemory);
-        }
-    }
-    Ok(names)
-}
-
 impl<'t> Printer<'t> {
     /// Parses a template whose values have no names.
     pub fn new(
@@ -137,7 +116,7 @@ impl<'t> Printer<'t> {
         ensures template { OnOk result (IsTemplateOf dialect template.now) }
         ensures refused { IfErr result (RefusesTemplate dialect template.now) }
     {
-        let names = name_positions(alloc, names)?;
+        let names = PositionNames::new(alloc, names)?;
         let parsed = parse(alloc, dialect, template)?;
         Ok(Printer {
             text: template,
