@@ -1,13 +1,10 @@
 -- What the words of the program say, and what was done by them.
-use Rattle.std.proofs.Common.{◌≡◌, ◌≢◌, ◌<◌, ◌≤◌, ◌^◌, ℕ, List, [], ◌∷◌, refl, sym, ap, ◌∙◌, subst, inl, inr, false, length, get_or, map, decimal, arith, Option, Some, None, MatchOption}
-use Rattle.std.specs.Prelude.{SomeIff}
+use Rattle.std.proofs.Common.{◌≡◌, ◌≢◌, ◌<◌, ◌≤◌, ℕ, List, [], ◌∷◌, refl, sym, ap, ◌∙◌, subst, inl, inr, false, length, get_or, map, decimal, arith, Option, Some, None, MatchOption}
 use Rattle.std.proofs.lemmas.Fmt.{decimal_injective}
-use Rattle.numerals.specs.Numeral.{numeral, IsDigitText, text_value}
-use Rattle.numerals.specs.Laws.{HasNoLeadingZero}
-use Rattle.numerals.proofs.Reading.{numeral_reads}
+use Rattle.numerals.specs.Numeral.{numeral}
+use Rattle.numerals.proofs.Steps.{numeral-injective}
 use Rattle.numerals.proofs.Unique.{numeral-digits}
-use Rattle.printer.specs.Inner.Keys.{IsPosition}
-use Rattle.printer.proofs.KeyLemmas.{no_zero_in_front, no_digits, is_position}
+use Rattle.values.specs.Decimal.{IsDecimal}
 use Rattle.translation.specs.declared.target.Target.{Target}
 use Rattle.translation.specs.declared.target.Target.TheVariants.{Strfmt, Formatx}
 use Rattle.line_job.specs.Ends.{Seen, SourceState, SinkState, Took}
@@ -132,22 +129,15 @@ said_of a b r same h = subst (λ (words : List (List ℕ)). MatchOption r (¬ Is
 decimal-numeral : (n : ℕ) → n ≤ sample_limit → decimal n ≡ numeral 10 false n
 decimal-numeral n small = sym (numeral-digits 10 n false (omega arith) (omega (arith, small)))
 
--- a word that is no position is no number of rows
-pub no_rows : (word : List ℕ) → IsPosition word None → (n : ℕ) → n ≤ sample_limit → word ≢ decimal n
+-- a word that is no number in decimal is no number of rows
+pub no_rows : (word : List ℕ) → IsDecimal word None → (n : ℕ) → n ≤ sample_limit → word ≢ decimal n
 no_rows word none n small e = none n (omega (arith, small)) (e ∙ decimal-numeral n small)
 
-pub no_rows_by_zero : (word : List ℕ) → 1 < length word → get_or word 0 0 ≡ 48 → (n : ℕ) → n ≤ sample_limit → word ≢ decimal n
-no_rows_by_zero word long first = no_rows word (λ place small. no_zero_in_front word place small long first)
-
-pub no_rows_by_digits : (word : List ℕ) → SomeIff {T = ℕ} None (IsDigitText 10 word × (text_value 10 word < 2 ^ 128)) (text_value 10 word) → (n : ℕ) → n ≤ sample_limit → word ≢ decimal n
-no_rows_by_digits word none = no_rows word (no_digits word none)
-
-pub too_many_rows : (word : List ℕ) (number : ℕ) → SomeIff (Some number) (IsDigitText 10 word × (text_value 10 word < 2 ^ 128)) (text_value 10 word) → sample_limit < number → (n : ℕ) → n ≤ sample_limit → word ≢ decimal n
+pub too_many_rows : (word : List ℕ) (number : ℕ) → IsDecimal word (Some number) → sample_limit < number → (n : ℕ) → n ≤ sample_limit → word ≢ decimal n
 too_many_rows word number is large n small e =
-    let reads = numeral_reads 10 n false (omega arith) (omega arith) (omega (arith, small)) in
-    let value : text_value 10 word ≡ n = ap (text_value 10) (e ∙ decimal-numeral n small) ∙ reads.1 in
-    absurd (omega (arith, value, is.1, large, small))
+    let same : number ≡ n = numeral-injective 10 number n false (omega arith) (omega arith) (omega (arith, is.0)) (omega (arith, small)) (sym is.1 ∙ e ∙ decimal-numeral n small) in
+    absurd (omega (arith, same, large, small))
 
--- digits without a zero in front say the number of rows that they are in decimal
-pub rows_said : (word : List ℕ) (number : ℕ) → SomeIff (Some number) (IsDigitText 10 word × (text_value 10 word < 2 ^ 128)) (text_value 10 word) → HasNoLeadingZero word → number ≤ sample_limit → word ≡ decimal number
-rows_said word number is lead small = (is_position word number is lead (omega (arith, small))).1 ∙ sym (decimal-numeral number small)
+-- a number in decimal says so many rows
+pub rows_said : (word : List ℕ) (number : ℕ) → IsDecimal word (Some number) → number ≤ sample_limit → word ≡ decimal number
+rows_said word number is small = is.1 ∙ sym (decimal-numeral number small)

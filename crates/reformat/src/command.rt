@@ -1,6 +1,5 @@
 // The commands of the program.
-ghost use Rattle.std.specs.Prelude.{◌≡◌, ◌<◌, ◌≤◌, ◌≢◌, ◌↔◌, ◌∷◌, [], ℕ, List, length, map, slice_index, string_bytes, decimal, IsTrue, MatchOption};
-ghost use Rattle.std.specs.Str.{byte};
+ghost use Rattle.std.specs.Prelude.{◌≡◌, ◌≤◌, ◌≢◌, ◌∷◌, [], ℕ, List, map, string_bytes, decimal, MatchOption};
 ghost use Rattle.line_job.specs.Ends.{Tells, Took, source_seen, sink_seen};
 ghost use Rattle.line_job.specs.Told.{RunsTold};
 ghost use Rattle.header_lines.specs.Heading.{first_next};
@@ -20,17 +19,17 @@ ghost use Rattle.reformat.specs.Inner.Said.{IsSaid, IsWithin, Does, Leaves};
 
 use edge_io::{Sink, Source};
 use line_job::tell;
-use numerals::{Radix, read_digits};
 use plan_jobs::{Target, run_plan, run_scan, run_translate};
 use rewriting::run_rewrite;
 use sample_job::run_sample;
 use std::alloc::Global;
+use values::read_decimal;
 
 /// How many bytes of input a command takes at most.
 const LIMIT: u64 = 268435456;
 
 /// How many rows a sample has at most.
-const SAMPLE_LIMIT: u128 = 1000000;
+const SAMPLE_LIMIT: usize = 1000000;
 
 const USAGE: &[u8] =
     b"usage: reformat rewrite | plan | scan FORMAT | translate strfmt|formatx | sample N\n";
@@ -67,25 +66,15 @@ fn target_of(word: &str) -> Option<Target>
     }
 }
 
-/// Whether a zero stands in front of another byte.
-fn has_leading_zero(digits: &[u8]) -> bool
-    ensures { IsTrue result ↔ ((1 < length digits.now) × (slice_index digits.now 0 ≡ byte "0")) }
-{
-    digits.len() > 1 && digits[0] == b'0'
-}
-
 /// The number of rows that the word says in decimal, without a sign and without a zero in front.
 fn rows_of(word: &str) -> Option<u64>
     ensures { MatchOption result ((n : ℕ) → n ≤ sample_limit → word.now ≢ decimal n) (λ n. (n ≤ sample_limit) × (word.now ≡ decimal n)) }
 {
-    if has_leading_zero(word.as_bytes()) {
+    let rows = read_decimal(word)?;
+    if rows > SAMPLE_LIMIT {
         return None;
     }
-    let number = read_digits(word, Radix::Ten)?;
-    if number > SAMPLE_LIMIT {
-        return None;
-    }
-    Some(number as u64)
+    Some(rows as u64)
 }
 
 /// The command that two words say.
