@@ -34,7 +34,7 @@ place_after (Named s) next = next
 
 -- A template over the values of a row.
 abbrev pub scene : List ℕ → List Kind → List ℕ → List Token → Scene
-scene template kinds row tokens = record { source = template; values = each_of formatx_meaning kinds (data_of kinds row tokens); names = []; strict = true }
+scene template kinds row tokens = record { source = template; values = each_of formatx_meaning kinds (data_of kinds row tokens); names = λ _. None; strict = true }
 
 -- The text of a layout, and behind it what segments print from an implicit position on.
 abbrev pub rendered_behind : List ℕ → Parts → List Segment → ℕ → List Kind → List ℕ → List Token → Outcome
