@@ -213,7 +213,7 @@ nothing_spells (Exactly c) rest (inl h) = absurd (omega (arith, ap length h.0))
 nothing_spells (Exactly c) rest (inr (inl h)) = absurd (omega (arith, ap length h.0))
 nothing_spells (Exactly c) rest (inr (inr h)) = absurd (omega (arith, ap length h))
 nothing_spells (Field stored s) rest (body, e, h) = absurd (omega (arith, ap length e))
-nothing_spells (Expression stored p) rest (body, e, h) = absurd (omega (arith, ap length e))
+nothing_spells (Expression stored p) rest (body, e, any, digits, delimited, some) = absurd (omega (arith, ap length e))
 nothing_spells AtEnd rest (body, starred, any, e, h) = absurd (omega (arith, ap length e))
 
 no_field : (text : List ℕ) → 125 ∷ [] ≡ 123 ∷ text → ⊥
@@ -226,7 +226,7 @@ lone_brace (Exactly c) rest (inl h) = h.2 (sym (heads 125 c [] rest h.0).0)
 lone_brace (Exactly c) rest (inr (inl h)) = absurd (omega (arith, ap length h.0))
 lone_brace (Exactly c) rest (inr (inr h)) = absurd (omega (arith, ap length h))
 lone_brace (Field stored s) rest (body, e, h) = no_field (star stored ++ body) e
-lone_brace (Expression stored p) rest (body, e, h) = no_field (star stored ++ body) e
+lone_brace (Expression stored p) rest (body, e, any, digits, delimited, some) = no_field (star stored ++ body) e
 lone_brace AtEnd rest (body, starred, any, e, h) = no_field (star starred ++ body) e
 
 after_close : (cs : List ℕ) → Front (125 ∷ cs)
@@ -287,7 +287,7 @@ spells_longer (Exactly c) format rest (inl h) = omega (arith, ap length h.0)
 spells_longer (Exactly c) format rest (inr (inl h)) = omega (arith, ap length h.0)
 spells_longer (Exactly c) format rest (inr (inr h)) = omega (arith, ap length h)
 spells_longer (Field stored s) format rest (body, e, h) = omega (arith, ap length e, length-append (star stored) body, body_longer (Shaped s) body rest (shape_body s body rest h))
-spells_longer (Expression stored p) format rest (body, e, h) = omega (arith, ap length e, length-append (star stored) body, body_longer (Finds p) body rest (expression_body p body rest h))
+spells_longer (Expression stored p) format rest (body, e, any, digits, delimited, some) = omega (arith, ap length e, length-append (star stored) body, body_longer (Finds p) body rest (expression_body p body rest (any, digits, delimited, some)))
 spells_longer AtEnd format rest (body, starred, any, e, h) = omega (arith, ap length e, length-append (star starred) body, body_longer Ends body rest (end_body body rest any h))
 
 pub blanks_shorter : (text : List ℕ) → length (after_blanks text) ≤ length text

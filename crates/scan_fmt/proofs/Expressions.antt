@@ -1,5 +1,5 @@
 -- What `regex` reads in a pattern, and what it finds, by what its calls ensure.
-use Rattle.std.proofs.Common.{◌≡◌, ◌<◌, ◌≤◌, ◌++◌, ℕ, true, false, List, [], ◌∷◌, take, drop, slice_range, Option, Some, None, All, IsSome, IsSomeAnd, IfSome, option_map, option_and_then, encode_utf8_all, IsUtf8, get_or, append_assoc, refl, sym, ap, subst, ◌∙◌, arith, inl, inr}
+use Rattle.std.proofs.Common.{cond, leb, ◌≡◌, ◌<◌, ◌≤◌, ◌++◌, ℕ, true, false, List, [], ◌∷◌, take, drop, slice_range, Option, Some, None, All, IsSome, IsSomeAnd, IfSome, option_map, option_and_then, encode_utf8_all, IsUtf8, get_or, append_assoc, refl, sym, ap, subst, ◌∙◌, arith, inl, inr}
 use Rattle.std.specs.List.{AllByRecursion}
 use Rattle.std.specs.Option.{unwrap_or}
 use Rattle.std.specs.Str.{chars}
@@ -26,8 +26,8 @@ use Rattle.regex_syntax.specs.Brackets.{Nested}
 use Rattle.regex_syntax.specs.Grammar.{Names, read}
 use Rattle.regex_syntax.specs.declared.error.Error as parser
 use Rattle.regex_syntax.proofs.CapturesLemmas.{spans, find_str_alike}
-use Rattle.scan_fmt.specs.Expressions.{anchored, shallow, expression, found_in, token_span}
-use Rattle.scan_fmt.specs.Scanned.{Token, matched_token, after_match}
+use Rattle.scan_fmt.specs.Expressions.{anchored, expression, found_in, token_span}
+use Rattle.scan_fmt.specs.Scanned.{Token, matched}
 use Rattle.scan_fmt.specs.Inner.Built.{IsBuilt}
 use Rattle.scan_fmt.specs.Inner.Found.{AreParts, token_of}
 use Rattle.scan_fmt.proofs.Characters.{ascii_from, ascii_same}
@@ -50,6 +50,9 @@ anchored_chars source pattern utf8 is =
 -- what is read
 abbrev Read : Type 0
 Read = Nested Re × Names
+
+abbrev shallow : Read → Option Re
+shallow (re, names) = cond (leb re.depth default_config.nest_limit) (Some re.value) None
 
 shallow_is : (x : Read) → x.0.depth ≤ default_config.nest_limit → shallow x ≡ Some x.0.value
 shallow_is x fits = cond-true _ (Some x.0.value) None (le-leb x.0.depth default_config.nest_limit fits)
@@ -124,6 +127,13 @@ same_none o (Some n) e h = absurd (none-some (spans n) (sym (ap (option_map span
 same_some : (o q : Option Match) (m : Match) → option_map spans o ≡ option_map spans q → o ≡ Some m → (n : Match) × (q ≡ Some n) × (spans n ≡ spans m)
 same_some o None m e h = absurd (none-some (spans m) (sym e ∙ ap (option_map spans) h))
 same_some o (Some n) m e h = (n, refl, same_Some (spans n) (spans m) (sym e ∙ ap (option_map spans) h))
+
+-- the token of an expression, and what it leaves
+abbrev pub matched_token : List ℕ → Option Match → Token
+matched_token input found = (matched input found).0
+
+abbrev pub after_match : List ℕ → Option Match → List ℕ
+after_match input found = (matched input found).1
 
 module _ (input pattern : List ℕ) (regex : Regex) (utf8 : IsUtf8 input) (bytes : All (λ b. b < 256) input) (built : IsBuilt pattern regex) where
   pub finds_none : find_str (regex_pattern regex) input 0 ≡ None → found_in (chars input) pattern ≡ None

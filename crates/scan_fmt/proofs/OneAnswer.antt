@@ -1,12 +1,13 @@
 -- Over one input, one format gives one list of tokens.
 use Rattle.std.proofs.Common.{eqb, cond, ◌≡◌, ◌≢◌, ◌<◌, ℕ, Bool, true, false, List, [], ◌∷◌, ◌++◌, Option, sym, ap, subst, refl, inl, inr, ◌∙◌, arith}
+use Rattle.std.specs.Bool.{then_some}
 use Rattle.std.specs.Char.{digit_value}
 use Rattle.std.specs.Str.Parse.{AllDigits}
 use Rattle.scan_fmt.specs.Sets.{IsListing}
 use Rattle.scan_fmt.specs.Grammar.{Run, Until, Solid, Among, Decimal, Hexadecimal, Float, Characters, Number, Directive, Exactly, Field, Expression, AtEnd, first, star, caret, limit_of, Spells, Cuts, after_blanks}
 use Rattle.scan_fmt.specs.Expressions.{IsDelimited}
 use Rattle.scan_fmt.specs.Inner.Fields.{Content, Shaped, Finds, Ends, Names, SpellsBody, alone, named, field_of, SpellsField}
-use Rattle.scan_fmt.specs.Scanned.{MayTake, token_text, Token, stored_token, Outcome, with_token, Passes, Refuses, ended, refused, passed, Takes, tokens_of, OneAnswer}
+use Rattle.scan_fmt.specs.Scanned.{MayTake, token_text, Token, Outcome, with_token, Passes, ended, refused, passed, Takes, tokens_of, OneAnswer}
 use Rattle.scan_fmt.proofs.Longest.{longest_one}
 use Rattle.scan_fmt.proofs.Spelled.{heads, listing_one, names_head, named_longest, body_no_star, body_no_open, shape_body, expression_body, end_body}
 use Rattle.scan_fmt.proofs.Patterns.{pattern_one, pattern_open}
@@ -125,7 +126,7 @@ data Spelt (d : Directive) (format rest : List ℕ) : Type 0 where
 spelt : (d : Directive) (format rest : List ℕ) → Spells d format rest → Spelt d format rest
 spelt (Exactly c) format rest h = plain c refl h
 spelt (Field stored s) format rest (body, e, h) = field (record { stored = stored; shape = Shaped s; text = star stored ++ body; is = refl; opens = e; spells = (body, refl, shape_body s body rest h) })
-spelt (Expression stored pattern) format rest (body, e, h) = field (record { stored = stored; shape = Finds pattern; text = star stored ++ body; is = refl; opens = e; spells = (body, refl, expression_body pattern body rest h) })
+spelt (Expression stored pattern) format rest (body, e, any, digits, delimited, some) = field (record { stored = stored; shape = Finds pattern; text = star stored ++ body; is = refl; opens = e; spells = (body, refl, expression_body pattern body rest (any, digits, delimited, some)) })
 spelt AtEnd format rest (body, starred, any, e, h) = field (record { stored = starred; shape = Ends; text = star starred ++ body; is = refl; opens = e; spells = (body, refl, end_body body rest any h) })
 
 braces : ◌≡◌ {A = ℕ} 123 125 → ⊥
@@ -175,22 +176,16 @@ cuts_one (d ∷ ds) (e ∷ es) format a b =
     let tail : ds ≡ es = cuts_one ds es b.0 (subst (λ (f : List ℕ). Cuts f ds) one.1 a.2) b.2 in
     cc
 
--- a directive passes the input in one way, and doesn't refuse it then
+-- a directive passes the input in one way
 passes_one : (d : Directive) (input r q : List ℕ) (t u : Option Token) → Passes d input t r → Passes d input u q → (t ≡ u) × (r ≡ q)
 passes_one (Exactly c) input r q t u a b = (a.1 ∙ sym b.1, (heads c c r q (sym a.0 ∙ b.0)).1)
 passes_one (Field stored s) input r q t u (a, h, i) (b, k, j) =
     let both = longest_one (MayTake s) input a b r q h k in
-    let tokens : stored_token stored (record { text = token_text s a; behind = r }) ≡ stored_token stored (record { text = token_text s b; behind = q }) =
-    ap (λ (x : List ℕ). stored_token stored (record { text = token_text s x; behind = r })) both.0 ∙ ap (λ (x : List ℕ). stored_token stored (record { text = token_text s b; behind = x })) both.1 in
+    let tokens : then_some stored (record { text = token_text s a; behind = r }) ≡ then_some stored (record { text = token_text s b; behind = q }) =
+    ap (λ (x : List ℕ). then_some stored (record { text = token_text s x; behind = r })) both.0 ∙ ap (λ (x : List ℕ). then_some stored (record { text = token_text s b; behind = x })) both.1 in
     (i ∙ tokens ∙ sym j, both.1)
 passes_one (Expression stored pattern) input r q t u a b = (a.0 ∙ sym b.0, a.1 ∙ sym b.1)
 passes_one AtEnd input r q t u a b = absurd a
-
-refuses_not : (d : Directive) (input r : List ℕ) (t : Option Token) → Refuses d input → Passes d input t r → ⊥
-refuses_not (Exactly c) input r t h a = h (ap first a.0)
-refuses_not (Field stored s) input r t h a = h
-refuses_not (Expression stored pattern) input r t h a = h
-refuses_not AtEnd input r t h a = a
 
 takes_one : (ds : List Directive) (input : List ℕ) (o p : Outcome) → Takes ds input o → Takes ds input p → o ≡ p
 takes_one [] input o p a b = a ∙ sym b
@@ -199,9 +194,9 @@ takes_one (d ∷ ds) input o p (ended e a) (refused n r b) = absurd (n e)
 takes_one (d ∷ ds) input o p (ended e a) (passed n t r m pass go b) = absurd (n e)
 takes_one (d ∷ ds) input o p (refused n r a) (ended f b) = absurd (n f)
 takes_one (d ∷ ds) input o p (refused n h a) (refused k g b) = a ∙ sym b
-takes_one (d ∷ ds) input o p (refused n h a) (passed k t r m pass go b) = absurd (refuses_not d (after_blanks input) r t h pass)
+takes_one (d ∷ ds) input o p (refused n h a) (passed k t r m pass go b) = absurd (h t r pass)
 takes_one (d ∷ ds) input o p (passed n t r m pass go a) (ended f b) = absurd (n f)
-takes_one (d ∷ ds) input o p (passed n t r m pass go a) (refused k h b) = absurd (refuses_not d (after_blanks input) r t h pass)
+takes_one (d ∷ ds) input o p (passed n t r m pass go a) (refused k h b) = absurd (h t r pass)
 takes_one (d ∷ ds) input o p (passed n t r m pass go a) (passed k t' r' m' pass' go' b) =
     let both = passes_one d (after_blanks input) r r' t t' pass pass' in
     let more : m ≡ m' = takes_one ds r' m m' (subst (λ (q : List ℕ). Takes ds q m) both.1 go) go' in

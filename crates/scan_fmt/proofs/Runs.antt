@@ -1,10 +1,14 @@
 -- Numbers within their limits.
-use Rattle.std.proofs.Common.{◌≡◌, ◌<◌, ◌≤◌, ◌-◌, ℕ, zero, suc, List, [], ◌∷◌, ◌++◌, length, take, drop, Option, Some, None, MatchOption, sym, ap, subst, refl, ◌∙◌, arith, append_assoc, length-append, length-take}
+use Rattle.std.proofs.Common.{◌≡◌, ◌<◌, ◌≤◌, ◌-◌, ℕ, zero, suc, List, [], ◌∷◌, ◌++◌, length, take, drop, Option, Some, None, IfSome, MatchOption, sym, ap, subst, refl, ◌∙◌, arith, append_assoc, length-append, length-take}
 use Rattle.std.specs.List.{AllByRecursion}
 use Rattle.std.specs.Str.{chars, IsUtf8, IsCharBoundary}
 use Rattle.std.proofs.lemmas.List.{take-append-drop, append_cancel_left}
-use Rattle.scan_fmt.specs.Scanned.{IsLongest, Within}
+use Rattle.scan_fmt.specs.Scanned.{IsLongest}
 use Rattle.scan_fmt.proofs.Characters.{ascii_cut, ascii_longest}
+
+-- at most so many characters
+abbrev pub Within : Option ℕ → List ℕ → Type 0
+Within limit text = IfSome limit (λ n. length text ≤ n)
 
 -- the longest of the first n characters
 pub limited : (S : List ℕ → Type 0) (n : ℕ) (text a r : List ℕ) → IsLongest S (take n text) a r → IsLongest (λ t. S t × Within (Some n) t) text a (r ++ drop n text)

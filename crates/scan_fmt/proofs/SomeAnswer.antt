@@ -1,15 +1,17 @@
 -- Each format gives a list of tokens over each input: every shape has a longest front.
-use Rattle.std.proofs.Common.{◌≡◌, ◌≢◌, ◌⊎◌, ◌<◌, ◌≤◌, ℕ, Bool, true, false, List, [], ◌∷◌, ◌++◌, take, drop, Option, Some, None, sym, ap, subst, refl, inl, inr, ◌∙◌, arith}
+use Rattle.std.proofs.Common.{◌≡◌, ◌≢◌, ◌⊎◌, ◌<◌, ◌≤◌, ℕ, Bool, true, false, List, [], ◌∷◌, ◌++◌, length, take, drop, Option, Some, None, sym, ap, subst, refl, inl, inr, ◌∙◌, arith}
 use Rattle.std.specs.List.{AllByRecursion}
 use Rattle.std.specs.Char.{digit_value}
 use Rattle.std.specs.Str.Parse.{AllDigits}
 use Rattle.std.proofs.lemmas.Bool.{cases_Bool, cases_eq, cases_lt}
 use Rattle.scan_fmt.specs.Grammar.{Run, Until, Solid, Among, Notation, Decimal, Hexadecimal, Float, Shape, Characters, Number, Directive, Exactly, Field, Expression, AtEnd, first, is_blank, after_blanks}
 use Rattle.scan_fmt.specs.Sets.{is_in_set}
-use Rattle.scan_fmt.specs.Scanned.{IsLongest, Optionally, IsSigned, IsPrefixed, IsFloat, IsNumber, begins_0x, Within, Suits, MayTake, Token, Outcome, Found, Mismatch, with_token, Passes, Refuses, ended, refused, passed, Takes, tokens_of, SomeAnswer}
+use Rattle.scan_fmt.specs.Scanned.{IsLongest, Optionally, IsSigned, IsPrefixed, IsFloat, IsNumber, Suits, MayTake, Token, Outcome, Found, Mismatch, with_token, Passes, Refuses, ended, refused, passed, Takes, tokens_of, SomeAnswer}
+use Rattle.scan_fmt.specs.Inner.Found.{begins_0x}
 use Rattle.scan_fmt.proofs.Longest.{longest_stops, longest_cons}
 use Rattle.scan_fmt.proofs.Digits.{signed_plain, optional_none, float, begins_0x_is, prefixed_x_cons, prefixed_0x_cons, prefixed_bare}
-use Rattle.scan_fmt.proofs.Runs.{limited}
+use Rattle.scan_fmt.proofs.Spelled.{heads}
+use Rattle.scan_fmt.proofs.Runs.{Within, limited}
 use Rattle.scan_fmt.proofs.Cutting.{cuts_some}
 
 -- a longest front
@@ -118,11 +120,11 @@ Decided d input = Refuses d input ⊎ ((token : Option Token) × (rest : List �
 
 decided : (d : Directive) (input : List ℕ) → Decided d input
 unfolding Decided
-decided (Exactly c) [] = inl (λ e. cc)
-decided (Exactly c) (x ∷ xs) = elim (cases_eq x c) [ inl e ↦ inr (None, xs, (ap (λ y. y ∷ xs) e, refl)) | inr n ↦ inl (λ e. n (some_same x c e)) ]
+decided (Exactly c) [] = inl (λ token rest h. absurd (omega (arith, ap length h.0)))
+decided (Exactly c) (x ∷ xs) = elim (cases_eq x c) [ inl e ↦ inr (None, xs, (ap (λ y. y ∷ xs) e, refl)) | inr n ↦ inl (λ token rest h. n (heads x c xs rest h.0).0) ]
 decided (Field stored s) input = let there = found s input in inr (_, there.rest, (there.taken, there.longest, refl))
 decided (Expression stored pattern) input = inr (_, _, (refl, refl))
-decided AtEnd input = inl tt
+decided AtEnd input = inl (λ token rest h. h)
 
 is_end : (text : List ℕ) → (text ≡ []) ⊎ (text ≢ [])
 is_end [] = inl refl

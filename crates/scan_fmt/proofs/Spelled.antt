@@ -4,8 +4,8 @@ use Rattle.std.specs.List.{AllByRecursion}
 use Rattle.std.specs.Char.{digit_value}
 use Rattle.std.specs.Str.Parse.{AllDigits}
 use Rattle.scan_fmt.specs.Sets.{IsListing}
-use Rattle.scan_fmt.specs.Grammar.{Until, Solid, Among, Decimal, Hexadecimal, Float, Shape, Characters, Number, Exactly, Field, Expression, AtEnd, first, star, caret, letter, limit_of, Limits, SpellsShape, SpellsExpression, Spells, NoDirective}
-use Rattle.scan_fmt.specs.Expressions.{expression}
+use Rattle.scan_fmt.specs.Grammar.{Until, Solid, Among, Decimal, Hexadecimal, Float, Shape, Characters, Number, Exactly, Field, Expression, AtEnd, first, star, caret, letter, limit_of, Limits, SpellsShape, Spells, NoDirective}
+use Rattle.scan_fmt.specs.Expressions.{IsDelimited, expression}
 use Rattle.scan_fmt.specs.Inner.Fields.{Content, Shaped, Finds, Ends, IsReadable, Names, SpellsBody, alone, named, field_of, SpellsField}
 use Rattle.scan_fmt.specs.Scanned.{IsLongest}
 use Rattle.scan_fmt.proofs.Longest.{longest_stops, longest_one}
@@ -115,6 +115,10 @@ shape_body (Number notation own) text rest (ds, e, digits, is) = named (record {
 pub end_body : (text rest : List ℕ) (any : Option ℕ) → Limits any (101 ∷ 125 ∷ rest) text → SpellsBody Ends text rest
 end_body text rest any (ds, e, digits, is) = named (record { ds = ds; name = 101 ∷ 125 ∷ rest; whole = e; digits = digits; named = refl })
 
+-- what stands in an expression's braces after its star
+abbrev pub SpellsExpression : List ℕ → List ℕ → List ℕ → Type 0
+SpellsExpression pattern text rest = (any : Option ℕ) × Limits any (47 ∷ (pattern ++ 47 ∷ 125 ∷ rest)) text × IsDelimited pattern × IsSome (expression pattern)
+
 expression_spells : (pattern text rest : List ℕ) → SpellsBody (Finds pattern) text rest → IsSome (expression pattern) → SpellsExpression pattern text rest
 expression_spells pattern text rest (alone stop is e at) some = absurd (cc)
 expression_spells pattern text rest (named n) some = (limit_of n.ds, (n.ds, n.whole ∙ ap (λ (t : List ℕ). n.ds ++ t) n.named.0, n.digits, refl), n.named.1, some)
@@ -124,7 +128,7 @@ expression_body pattern text rest (any, (ds, e, digits, is), delimited, some) = 
 
 pub field_spells : (stored : Bool) (s : Content) (text rest : List ℕ) → SpellsField stored s text rest → IsReadable s → Spells (field_of stored s) (123 ∷ text) rest
 field_spells stored (Shaped s) text rest (body, e, h) readable = (body, ap (λ (t : List ℕ). 123 ∷ t) e, body_spells s body rest h)
-field_spells stored (Finds pattern) text rest (body, e, h) readable = (body, ap (λ (t : List ℕ). 123 ∷ t) e, expression_spells pattern body rest h readable)
+field_spells stored (Finds pattern) text rest (body, e, h) readable = let found = expression_spells pattern body rest h readable in (body, ap (λ (t : List ℕ). 123 ∷ t) e, found.0, found.1, found.2, found.3)
 field_spells stored Ends text rest (body, e, h) readable = let ends = end_spells body rest h in (body, stored, ends.0, ap (λ (t : List ℕ). 123 ∷ t) e, ends.1)
 
 -- no field, by the star in front and what follows it
@@ -146,5 +150,5 @@ directive_none format text e opens none (Exactly c) rest (inl h) = h.1 (sym (hea
 directive_none format text e opens none (Exactly c) rest (inr (inl h)) = opens rest (heads 123 123 text (123 ∷ rest) (sym e ∙ h.0)).1
 directive_none format text e opens none (Exactly c) rest (inr (inr h)) = no_brace (heads 123 125 text (c ∷ rest) (sym e ∙ h)).0
 directive_none format text e opens none (Field stored s) rest (body, is, h) = none stored (Shaped s) rest (body, (heads 123 123 text (star stored ++ body) (sym e ∙ is)).1, shape_body s body rest h) tt
-directive_none format text e opens none (Expression stored pattern) rest (body, is, h) = none stored (Finds pattern) rest (body, (heads 123 123 text (star stored ++ body) (sym e ∙ is)).1, expression_body pattern body rest h) h.3
+directive_none format text e opens none (Expression stored pattern) rest (body, is, any, digits, delimited, some) = none stored (Finds pattern) rest (body, (heads 123 123 text (star stored ++ body) (sym e ∙ is)).1, expression_body pattern body rest (any, digits, delimited, some)) some
 directive_none format text e opens none AtEnd rest (body, starred, any, is, h) = none starred Ends rest (body, (heads 123 123 text (star starred ++ body) (sym e ∙ is)).1, end_body body rest any h) tt

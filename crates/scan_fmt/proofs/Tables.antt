@@ -56,7 +56,7 @@ lists_pair has new old left ranges rest low high is grown h b =
     ap (λ x. x || is_in_ranges rest b) (grown b) ∙ or_assoc (has b) (is_between low high b) (is_in_ranges rest b) ∙ ap (λ (t : List ℕ). has b || is_in_ranges t b) (sym is) ∙ h b
 
 single : (low b : ℕ) (more : List ℕ) → ((z : ℕ) (rest : List ℕ) → more ≡ 45 ∷ z ∷ rest → ⊥) → is_in_ranges (low ∷ more) b ≡ ((b == low) || is_in_ranges more b)
-single low b [] none = sym (or_none (b == low))
+single low b [] none = refl
 single low b (x ∷ []) none = refl
 single low b (x ∷ z ∷ rest) none = elim (cases_Bool (x == 45)) [
   | inl e ↦ absurd (none z rest (ap (λ y. y ∷ z ∷ rest) (eqb-true x 45 e)))

@@ -9,10 +9,10 @@ use Rattle.std.specs.List.{slice_index}
 use Rattle.std.specs.Str.Parse.{without_leading_plus}
 use Rattle.scan_fmt.specs.declared.slices.Piece.{Piece}
 use Rattle.scan_fmt.specs.Grammar.{Shape, Characters, Number, Decimal, Hexadecimal, Float, Directive, Spells, NoDirective, Cuts, is_blank, after_blanks}
-use Rattle.scan_fmt.specs.Scanned.{IsLongest, MayTake, Token, token_text, begins_0x, Outcome, Found, Mismatch, with_token, Passes, Refuses, ended, refused, passed, Takes, tokens_of, ScannedTexts}
+use Rattle.scan_fmt.specs.Scanned.{IsLongest, MayTake, Token, token_text, Outcome, Found, Mismatch, with_token, Passes, Refuses, ended, refused, passed, Takes, tokens_of, ScannedTexts}
 use Rattle.scan_fmt.specs.Slices.{piece_text, IsSlice, IsPiece, ArePieces, AreInOrder, ScannedPieces}
 use Rattle.scan_fmt.specs.Inner.Parts.{TakesPieces}
-use Rattle.scan_fmt.specs.Inner.Found.{AreParts}
+use Rattle.scan_fmt.specs.Inner.Found.{AreParts, begins_0x}
 
 -- with these tokens in front
 abbrev pub after : List Token → Outcome → Outcome

@@ -4,8 +4,7 @@ use Rattle.std.specs.Option.{unwrap_or}
 use Rattle.std.specs.Str.{byte}
 use Rattle.regex.specs.Patterns.{Re, Match, find_str, span, default_config}
 use Rattle.regex.specs.Writes.{group_of}
-use Rattle.regex_syntax.specs.Brackets.{Nested}
-use Rattle.regex_syntax.specs.Grammar.{Names, read}
+use Rattle.regex_syntax.specs.Grammar.{read}
 
 -- Each slash of the text stands behind a backslash, and the text ends in none; the flag tells whether a backslash stands before the text.
 abbrev pub IsUnbroken : Bool → List ℕ → Type 0
@@ -21,13 +20,9 @@ IsDelimited (c ∷ cs) = IsUnbroken false cs
 abbrev pub anchored : List ℕ → List ℕ
 anchored pattern = codes "^(?:" ++ (pattern ++ codes ")")
 
--- What was read, where it nests no deeper than `regex` allows.
-abbrev pub shallow : Nested Re × Names → Option Re
-shallow (re, names) = if nat_le re.depth default_config.nest_limit then Some re.value else None
-
--- What `regex` reads in the anchored pattern: none where it isn't in the grammar of `regex` or nests too deep.
+-- What `regex` reads in the anchored pattern: none where it isn't in the grammar of `regex` or nests deeper than `regex` allows.
 abbrev pub expression : List ℕ → Option Re
-expression pattern = option_and_then shallow (read default_config (anchored pattern))
+expression pattern = option_and_then (λ (re, names). if nat_le re.depth default_config.nest_limit then Some re.value else None) (read default_config (anchored pattern))
 
 -- The first match of the pattern over a text, by the bytes of the text.
 abbrev pub found_in : List ℕ → List ℕ → Option Match

@@ -43,13 +43,11 @@ pub data Directive : Type 0 where
 
 -- a star keeps the token from being stored
 abbrev pub star : Bool → List ℕ
-star true = []
-star false = codes "*"
+star stored = if stored then [] else codes "*"
 
 -- a caret inverts a set
 abbrev pub caret : Bool → List ℕ
-caret true = codes "^"
-caret false = []
+caret inverted = if inverted then codes "^" else []
 
 -- the letter of a number's field
 abbrev pub letter : Notation → ℕ
@@ -72,15 +70,11 @@ SpellsShape (Characters Solid) text rest = (any : Option ℕ) × Limits any (cod
 SpellsShape (Characters (Among inverted listing)) text rest = (any : Option ℕ) × Limits any (byte "[" ∷ (caret inverted ++ (listing ++ (codes "]}" ++ rest)))) text × IsListing inverted listing
 SpellsShape (Number notation limit) text rest = Limits limit (letter notation ∷ byte "}" ∷ rest) text
 
--- what stands in an expression's braces after its star, and then the rest: digits, which change nothing, and between slashes the pattern, which `regex` reads
-abbrev pub SpellsExpression : List ℕ → List ℕ → List ℕ → Type 0
-SpellsExpression pattern text rest = (any : Option ℕ) × Limits any (byte "/" ∷ (pattern ++ (codes "/}" ++ rest))) text × IsDelimited pattern × IsSome (expression pattern)
-
--- the format spells the directive and then the rest: a character but a brace stands for itself, `{{` for an opening brace, `}` and any character for that one; a star and digits change nothing at `{e}`
+-- the format spells the directive and then the rest: a character but a brace stands for itself, `{{` for an opening brace, `}` and any character for that one; an expression has its pattern between slashes, and `regex` reads it; digits change nothing at an expression, and neither they nor a star at `{e}`
 abbrev pub Spells : Directive → List ℕ → List ℕ → Type 0
 Spells (Exactly c) format rest = ((format ≡ c ∷ rest) × (c ≢ byte "{") × (c ≢ byte "}")) ⊎ (((format ≡ codes "{{" ++ rest) × (c ≡ byte "{")) ⊎ (format ≡ byte "}" ∷ c ∷ rest))
 Spells (Field stored shape) format rest = (text : List ℕ) × (format ≡ byte "{" ∷ (star stored ++ text)) × SpellsShape shape text rest
-Spells (Expression stored pattern) format rest = (text : List ℕ) × (format ≡ byte "{" ∷ (star stored ++ text)) × SpellsExpression pattern text rest
+Spells (Expression stored pattern) format rest = (text : List ℕ) × (format ≡ byte "{" ∷ (star stored ++ text)) × (any : Option ℕ) × Limits any (byte "/" ∷ (pattern ++ (codes "/}" ++ rest))) text × IsDelimited pattern × IsSome (expression pattern)
 Spells AtEnd format rest = (text : List ℕ) × (starred : Bool) × (any : Option ℕ) × (format ≡ byte "{" ∷ (star starred ++ text)) × Limits any (codes "e}" ++ rest) text
 
 -- no directive stands in front: the format has ended, it is a lone `}`, or its field is malformed or of a pattern that `regex` doesn't read

@@ -1,5 +1,6 @@
 -- The tokens that a format takes from an input: each field takes the longest front of its shape.
-use Rattle.std.specs.Prelude.{◌≡◌, ◌≢◌, ℕ, ◌<◌, ◌≤◌, ◌==◌, ◌&&◌, ◌⊎◌, Bool, true, false, if◌then◌else◌, List, [], ◌∷◌, ◌++◌, length, drop, map, slice_index, slice_range, encode_utf8_all, Option, None, Some, ⊤}
+use Rattle.std.specs.Prelude.{◌≡◌, ◌≢◌, ℕ, ◌<◌, ◌≤◌, ◌==◌, ◌&&◌, ◌⊎◌, Bool, true, false, if◌then◌else◌, List, [], ◌∷◌, ◌++◌, length, drop, map, slice_index, slice_range, encode_utf8_all, Option, None, Some, IfSome, ⊤}
+use Rattle.std.specs.Bool.{then_some}
 use Rattle.std.specs.List.{AllByRecursion}
 use Rattle.std.specs.Char.{digit_value}
 use Rattle.std.specs.Str.{byte, chars}
@@ -7,7 +8,7 @@ use Rattle.std.specs.Str.Parse.{AllDigits, without_leading_plus}
 use Rattle.regex.specs.Patterns.{Match}
 use Rattle.scan_fmt.specs.Expressions.{token_span, found_in}
 use Rattle.scan_fmt.specs.Sets.{is_in_set}
-use Rattle.scan_fmt.specs.Grammar.{is_blank, after_blanks, first, Run, Until, Solid, Among, Notation, Decimal, Hexadecimal, Float, Shape, Characters, Number, Directive, Exactly, Field, Expression, AtEnd, Cuts}
+use Rattle.scan_fmt.specs.Grammar.{is_blank, after_blanks, Run, Until, Solid, Among, Notation, Decimal, Hexadecimal, Float, Shape, Characters, Number, Directive, Exactly, Field, Expression, AtEnd, Cuts}
 
 -- one sign or none, then digits
 abbrev pub IsSigned : List ℕ → Type 0
@@ -33,21 +34,16 @@ IsNumber Decimal = IsSigned
 IsNumber Hexadecimal = IsPrefixed
 IsNumber Float = IsFloat
 
--- at most so many characters
-abbrev pub Within : Option ℕ → List ℕ → Type 0
-Within None text = ⊤
-Within (Some n) text = length text ≤ n
-
 -- a character that may stand in such a run
 abbrev pub Suits : Run → ℕ → Type 0
 Suits (Until stop) c = (is_blank c ≡ false) × (Some c ≢ stop)
 Suits Solid c = is_blank c ≡ false
 Suits (Among inverted listing) c = is_in_set inverted listing c ≡ true
 
--- what a field may take, be it empty: a run of such characters, or a number within its limit
+-- what a field may take, be it empty: a run of such characters, or a number of at most as many characters as its limit says
 abbrev pub MayTake : Shape → List ℕ → Type 0
 MayTake (Characters run) text = AllByRecursion (Suits run) text
-MayTake (Number notation limit) text = IsNumber notation text × Within limit text
+MayTake (Number notation limit) text = IsNumber notation text × IfSome limit (λ n. length text ≤ n)
 
 -- the longest front of the text with this property, and the rest
 pub record IsLongest (P : List ℕ → Type 0) (text taken rest : List ℕ) : Type 0 where
@@ -55,54 +51,36 @@ pub record IsLongest (P : List ℕ → Type 0) (text taken rest : List ℕ) : Ty
   pub shape : P taken
   pub longest : (other more : List ℕ) → text ≡ other ++ more → P other → length other ≤ length taken
 
--- the text begins with `0x`
-abbrev pub begins_0x : List ℕ → Bool
-begins_0x text = (slice_index text 0 == byte "0") && (slice_index text 1 == byte "x")
-
 -- the text without a `0x` in front
 abbrev pub without_0x : List ℕ → List ℕ
-without_0x text = if begins_0x text then drop 2 text else text
+without_0x text = if (slice_index text 0 == byte "0") && (slice_index text 1 == byte "x") then drop 2 text else text
 
--- the text of a token, by what was taken: a number drops its plus sign, a hexadecimal one its `0x`
+-- the text of a token, by what was taken: a hexadecimal number drops its `0x`, any other its plus sign
 abbrev pub token_text : Shape → List ℕ → List ℕ
 token_text (Characters run) taken = taken
-token_text (Number Decimal limit) taken = without_leading_plus taken
 token_text (Number Hexadecimal limit) taken = without_0x taken
-token_text (Number Float limit) taken = without_leading_plus taken
+token_text (Number _ limit) taken = without_leading_plus taken
 
 -- a token stands at a place of the input: its text, and what stands behind it
 pub record Token : Type 0 where
   pub text : List ℕ
   pub behind : List ℕ
 
--- the token of a field, where it is stored
-abbrev pub stored_token : Bool → Token → Option Token
-stored_token true token = Some token
-stored_token false token = None
+-- the token of an expression, and what is left of the input: where nothing matched an empty token and all of the input, else the text at the token's span and what stands behind the match
+abbrev pub matched : List ℕ → Option Match → Token × List ℕ
+matched input None = (record { text = []; behind = input }, input)
+matched input (Some m) = (record { text = chars (slice_range (encode_utf8_all input) (token_span m).0 (token_span m).1); behind = chars (drop (token_span m).1 (encode_utf8_all input)) }, chars (drop m.trace.end (encode_utf8_all input)))
 
--- the token of an expression over the input: where nothing matched an empty one at the place, else the text at the token's span
-abbrev pub matched_token : List ℕ → Option Match → Token
-matched_token input None = record { text = []; behind = input }
-matched_token input (Some m) = record { text = chars (slice_range (encode_utf8_all input) (token_span m).0 (token_span m).1); behind = chars (drop (token_span m).1 (encode_utf8_all input)) }
-
--- what an expression leaves of the input: where nothing matched all of it, else what stands behind the match
-abbrev pub after_match : List ℕ → Option Match → List ℕ
-after_match input None = input
-after_match input (Some m) = chars (drop m.trace.end (encode_utf8_all input))
-
--- the directive passes a front of the input and leaves the rest: a character that character, a field the longest front of its shape, an expression what its pattern finds, and the token of a field or an expression is stored unless there is a star
+-- the directive passes a front of the input and leaves the rest: a character that character, a field the longest front of its shape, an expression what its pattern finds, and the token of a field or an expression is stored unless there is a star; the demand that the input has ended passes nothing
 abbrev pub Passes : Directive → List ℕ → Option Token → List ℕ → Type 0
 Passes (Exactly c) input token rest = (input ≡ c ∷ rest) × (token ≡ None)
-Passes (Field stored shape) input token rest = (taken : List ℕ) × IsLongest (MayTake shape) input taken rest × (token ≡ stored_token stored (record { text = token_text shape taken; behind = rest }))
-Passes (Expression stored pattern) input token rest = (token ≡ stored_token stored (matched_token input (found_in input pattern))) × (rest ≡ after_match input (found_in input pattern))
+Passes (Field stored shape) input token rest = (taken : List ℕ) × IsLongest (MayTake shape) input taken rest × (token ≡ then_some stored (record { text = token_text shape taken; behind = rest }))
+Passes (Expression stored pattern) input token rest = (token ≡ then_some stored (matched input (found_in input pattern)).0) × (rest ≡ (matched input (found_in input pattern)).1)
 Passes AtEnd input token rest = ⊥
 
--- the input that is left doesn't fit: another character stands in front, or it had to be at its end
+-- the input that is left doesn't fit: the directive passes no front of it
 abbrev pub Refuses : Directive → List ℕ → Type 0
-Refuses (Exactly c) input = first input ≢ Some c
-Refuses (Field stored shape) input = ⊥
-Refuses (Expression stored pattern) input = ⊥
-Refuses AtEnd input = ⊤
+Refuses d input = (token : Option Token) (rest : List ℕ) → Passes d input token rest → ⊥
 
 -- what a scan comes to: the tokens, or what was left of the input where it didn't fit
 pub data Outcome : Type 0 where
@@ -111,9 +89,8 @@ pub data Outcome : Type 0 where
 
 -- the outcome with this token in front, if there is one
 abbrev pub with_token : Option Token → Outcome → Outcome
-with_token None out = out
 with_token (Some token) (Found tokens) = Found (token ∷ tokens)
-with_token (Some token) (Mismatch input) = Mismatch input
+with_token _ out = out
 
 -- what a directive and the later ones come to, over an input whose white space in front is passed: the input has ended, it doesn't fit, or the directive passes a front, and the later ones come to something over the rest
 pub data Step (d : Directive) (input : List ℕ) (later : List ℕ → Outcome → Type 0) (out : Outcome) : Type 0 where

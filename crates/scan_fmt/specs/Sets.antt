@@ -10,9 +10,8 @@ is_between low high c = nat_le low c && nat_le c high
 -- the text lists the character: a dash between two characters makes a range of them, any other character stands for itself
 abbrev pub is_in_ranges : List ℕ → ℕ → Bool
 is_in_ranges [] c = false
-is_in_ranges (a ∷ []) c = c == a
-is_in_ranges (a ∷ b ∷ []) c = (c == a) || (c == b)
 is_in_ranges (a ∷ b ∷ z ∷ rest) c = if b == byte "-" then is_between a z c || is_in_ranges rest c else (c == a) || is_in_ranges (b ∷ z ∷ rest) c
+is_in_ranges (a ∷ rest) c = (c == a) || is_in_ranges rest c
 
 -- a dash or a closing bracket that stands first is itself, and no end of a range
 abbrev pub is_listed : List ℕ → ℕ → Bool

@@ -2,7 +2,7 @@
 use denote.Ref.{Bor}
 use Rattle.std.specs.Prelude.{◌≡◌, ℕ, ◌≤◌, List, [], ◌∷◌, length, map, drop, Option, ⊤}
 use Rattle.std.specs.Iterator.{YieldsFirstRef}
-use Rattle.std.specs.List.{slice_range}
+use Rattle.std.specs.List.{slice_range, AllZip}
 use Rattle.std.specs.Str.{chars, IsCharBoundary}
 use Rattle.scan_fmt.specs.declared.slices.Piece.{Piece}
 use Rattle.scan_fmt.specs.Scanned.{Token, Scanned}
@@ -26,10 +26,7 @@ pub record IsPiece (input : List ℕ) (piece : Piece) (token : Token) : Type 0 w
 
 -- one piece for each token
 abbrev pub ArePieces : List ℕ → List Piece → List Token → Type 0
-ArePieces input [] [] = ⊤
-ArePieces input (p ∷ ps) (t ∷ ts) = IsPiece input p t × ArePieces input ps ts
-ArePieces input [] (t ∷ ts) = ⊥
-ArePieces input (p ∷ ps) [] = ⊥
+ArePieces input = AllZip (IsPiece input)
 
 -- each piece starts at or after the end of the one before, and the first at or after this place
 abbrev pub AreInOrder : ℕ → List Piece → Type 0

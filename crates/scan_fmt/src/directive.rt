@@ -19,7 +19,7 @@ use std::alloc::Global;
 
 /// The characters that a run may have.
 #[derive(Drop)]
-pub enum Run<'f> {
+pub(crate) enum Run<'f> {
     /// All but white space and this character.
     Until(Option<char>),
     /// All but white space.
@@ -30,7 +30,7 @@ pub enum Run<'f> {
 
 /// How a number is written.
 #[derive(Clone, Copy)]
-pub enum Notation {
+pub(crate) enum Notation {
     Decimal,
     Hexadecimal,
     Float,
@@ -38,7 +38,7 @@ pub enum Notation {
 
 /// What a field takes.
 #[derive(Drop)]
-pub enum Shape<'f> {
+pub(crate) enum Shape<'f> {
     Characters(Run<'f>),
     /// A number of at most so many characters.
     Number {
@@ -71,7 +71,7 @@ enum Body<'f> {
 }
 
 #[derive(Drop)]
-pub enum Directive<'f> {
+pub(crate) enum Directive<'f> {
     /// A character that the input must have.
     Literal(char),
     Field {
@@ -320,7 +320,7 @@ fn front_directive(alloc: Global, format: &str) -> Result<Option<(Directive<'_>,
 }
 
 /// The directive that stands in front, after white space, and what follows it.
-pub fn next_directive(
+pub(crate) fn next_directive(
     alloc: Global,
     format: &str,
 ) -> Result<Option<(Directive<'_>, &str)>, NoMemory>

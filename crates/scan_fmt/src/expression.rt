@@ -3,7 +3,7 @@ ghost use Rattle.std.specs.Prelude.{◌≡◌, ◌≤◌, drop, slice_range, IfO
 ghost use Rattle.std.specs.Str.{chars};
 ghost use Rattle.regex.specs.Strings.{match_span, match_haystack};
 ghost use Rattle.scan_fmt.specs.Expressions.{anchored, expression, found_in};
-ghost use Rattle.scan_fmt.specs.Scanned.{matched_token, after_match};
+ghost use Rattle.scan_fmt.specs.Scanned.{matched};
 ghost use Rattle.scan_fmt.specs.Inner.Found.{AreParts, token_of};
 
 use numerals::NoMemory;
@@ -13,7 +13,7 @@ use std::marker::Model;
 
 /// The pattern of an expression, built.
 #[derive(Drop)]
-pub struct Expression<'f> {
+pub(crate) struct Expression<'f> {
     pattern: &'f str,
     regex: Box<Regex>,
 }
@@ -32,7 +32,7 @@ impl<'f> Model for Expression<'f> {
 
 /// What an expression takes from an input.
 #[derive(Clone, Copy)]
-pub struct Found<'i> {
+pub(crate) struct Found<'i> {
     /// The token.
     pub token: &'i str,
     /// What stands behind the token.
@@ -72,7 +72,7 @@ fn parts<'i>(input: &'i str, whole: Match<'i>, group: Option<Match<'i>>) -> Foun
 impl<'f> Expression<'f> {
     /// Builds the pattern. There is none where `regex` doesn't read it; a pattern past its limit on size counts as want
     /// of memory.
-    pub fn new(alloc: Global, pattern: &'f str) -> Result<Option<Expression<'f>>, NoMemory>
+    pub(crate) fn new(alloc: Global, pattern: &'f str) -> Result<Option<Expression<'f>>, NoMemory>
         ensures none { IfOk result (λ o. IfNone o (IsSome (expression (chars pattern.now)) → ⊥)) }
         ensures read { IfOk result (λ o. IfSome o (λ e. IsSome (expression (chars pattern.now)))) }
         ensures pattern { IfOk result (λ o. IfSome o (λ e. e ≡ chars pattern.now)) }
@@ -89,9 +89,9 @@ impl<'f> Expression<'f> {
     }
 
     /// What the pattern finds, where the input begins with a match; else an empty token in front of all of it.
-    pub fn find<'i>(&self, alloc: Global, input: &'i str) -> Result<Found<'i>, NoMemory>
-        ensures token { IfOk result (λ f. record { text = chars f.token.now; behind = chars f.behind.now } ≡ matched_token (chars input.now) (found_in (chars input.now) self.now)) }
-        ensures rest { IfOk result (λ f. chars f.rest.now ≡ after_match (chars input.now) (found_in (chars input.now) self.now)) }
+    pub(crate) fn find<'i>(&self, alloc: Global, input: &'i str) -> Result<Found<'i>, NoMemory>
+        ensures token { IfOk result (λ f. record { text = chars f.token.now; behind = chars f.behind.now } ≡ (matched (chars input.now) (found_in (chars input.now) self.now)).0) }
+        ensures rest { IfOk result (λ f. chars f.rest.now ≡ (matched (chars input.now) (found_in (chars input.now) self.now)).1) }
         ensures parts { IfOk result (λ f. AreParts input.now f.token.now f.behind.now f.rest.now) }
     {
         let Ok(mut matcher) = self.regex.matcher(alloc) else {

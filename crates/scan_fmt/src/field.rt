@@ -27,7 +27,7 @@ fn within(input: &str, limit: Option<usize>) -> &[u8]
 }
 
 /// What a directive does to the input in front of it.
-pub enum Pass<'i> {
+pub(crate) enum Pass<'i> {
     /// The input doesn't fit.
     Mismatch,
     /// A front is passed; this is the rest.
@@ -197,7 +197,7 @@ fn literal(c: char, input: &str) -> Pass<'_>
 
 impl Directive<'_> {
     /// What the directive does to the input, whose white space in front is passed.
-    pub fn pass<'i>(&self, alloc: Global, input: &'i str) -> Result<Pass<'i>, NoMemory>
+    pub(crate) fn pass<'i>(&self, alloc: Global, input: &'i str) -> Result<Pass<'i>, NoMemory>
         ensures passes { IfOk result (IsPass (directive_of self.now) (chars input.now)) }
         ensures lies { IfOk result (LiesIn input.now) }
     {

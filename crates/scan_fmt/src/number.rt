@@ -4,7 +4,8 @@ ghost use Rattle.std.specs.Char.{digit_value};
 ghost use Rattle.std.specs.Str.{byte};
 ghost use Rattle.std.specs.Str.Parse.{AllDigits};
 ghost use Rattle.scan_fmt.specs.Grammar.{first};
-ghost use Rattle.scan_fmt.specs.Scanned.{IsLongest, Optionally, IsSigned, IsPrefixed, IsFloat, begins_0x};
+ghost use Rattle.scan_fmt.specs.Scanned.{IsLongest, Optionally, IsSigned, IsPrefixed, IsFloat};
+ghost use Rattle.scan_fmt.specs.Inner.Found.{begins_0x};
 
 fn is_digit(byte: u8, radix: u32) -> bool
     requires lower_bound { 2 ≤ radix }
@@ -15,7 +16,7 @@ fn is_digit(byte: u8, radix: u32) -> bool
 }
 
 /// How many digits stand in front.
-pub fn digits_len(bytes: &[u8], radix: u32) -> usize
+pub(crate) fn digits_len(bytes: &[u8], radix: u32) -> usize
     requires lower_bound { 2 ≤ radix }
     requires upper_bound { radix ≤ 36 }
     ensures within { result ≤ length bytes.now }
@@ -37,7 +38,7 @@ fn begins(bytes: &[u8], byte: u8) -> bool
 }
 
 /// How long the sign in front is, if there is one, and the digits after it.
-pub fn signed_len(bytes: &[u8]) -> usize
+pub(crate) fn signed_len(bytes: &[u8]) -> usize
     ensures within { result ≤ length bytes.now }
     ensures longest { IsLongest IsSigned bytes.now (take result bytes.now) (drop result bytes.now) }
 {
@@ -49,14 +50,14 @@ pub fn signed_len(bytes: &[u8]) -> usize
 }
 
 /// Whether `0x` stands in front.
-pub fn begins_0x(bytes: &[u8]) -> bool
+pub(crate) fn begins_0x(bytes: &[u8]) -> bool
     ensures { result ≡ begins_0x bytes.now }
 {
     bytes.len() > 1 && bytes[0] == b'0' && bytes[1] == b'x'
 }
 
 /// How long a `0`, an `x`, each if it stands there, and the hexadecimal digits after them are.
-pub fn prefixed_len(bytes: &[u8]) -> usize
+pub(crate) fn prefixed_len(bytes: &[u8]) -> usize
     ensures within { result ≤ length bytes.now }
     ensures longest { IsLongest IsPrefixed bytes.now (take result bytes.now) (drop result bytes.now) }
 {
@@ -92,7 +93,7 @@ fn exponent_len(bytes: &[u8]) -> usize
 }
 
 /// How long a decimal number with a fraction and an exponent is.
-pub fn float_len(bytes: &[u8]) -> usize
+pub(crate) fn float_len(bytes: &[u8]) -> usize
     ensures within { result ≤ length bytes.now }
     ensures longest { IsLongest IsFloat bytes.now (take result bytes.now) (drop result bytes.now) }
 {

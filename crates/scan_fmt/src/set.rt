@@ -13,14 +13,14 @@ use std::alloc::Global;
 
 /// The characters from one to another, both included.
 #[derive(Clone, Copy)]
-pub struct Span {
+pub(crate) struct Span {
     low: char,
     reach: char,
 }
 
 /// What stands between the brackets of a set, with a table of its ASCII characters and spans of all.
 #[derive(Drop)]
-pub struct Set<'f> {
+pub(crate) struct Set<'f> {
     listing: &'f str,
     ascii: AsciiSet,
     spans: Vec<Span>,
@@ -133,7 +133,7 @@ fn table_of(spans: &[Span]) -> AsciiSet
 
 impl<'f> Set<'f> {
     /// The set of a listing. Its table and its spans are made here.
-    pub fn new(alloc: Global, listing: &'f str) -> Result<Set<'f>, NoMemory>
+    pub(crate) fn new(alloc: Global, listing: &'f str) -> Result<Set<'f>, NoMemory>
         ensures { IfOk result (λ s. s.listing.now ≡ listing.now) }
     {
         let mut spans = ranges_of(alloc, listing)?;
@@ -147,7 +147,7 @@ impl<'f> Set<'f> {
     }
 
     /// Whether the character is listed.
-    pub fn has(&self, c: char) -> bool
+    pub(crate) fn has(&self, c: char) -> bool
         ensures { result ≡ is_listed (chars self.now.listing.now) c }
     {
         if c.is_ascii() {
