@@ -86,8 +86,8 @@ zero_unsigned f n width decimal wide left zeros =
     let lead : (if f.alt_form then prefix_of f.conversion_type else []) ≡ [] = rw decimal (no_prefix f.alt_form) in
     ap (λ (l : List ℕ). number_text f l n) lead ∙ zero_number f n width decimal wide left zeros
 
-pub serves_filled : NumeralOfValue → (f : ConversionSpecifier) (kind : Kind) (after : List ℕ) (greatest width : ℕ) → f.conversion_type ≡ DecInt → number_of f.width ≡ Some width → f.left_adj ≡ false → f.zero_pad ≡ true → IsGreatest kind greatest → Serves f kind after (Filled greatest width)
-serves_filled law f kind after greatest width decimal wide left zeros is row token shape =
+pub serves_filled : NumeralOfValue → (f : ConversionSpecifier) (kind : Kind) (after : List ℕ) (greatest width most : ℕ) → f.conversion_type ≡ DecInt → number_of f.width ≡ Some width → f.left_adj ≡ false → f.zero_pad ≡ true → IsGreatest kind greatest → Serves f kind after (Filled greatest width most)
+serves_filled law f kind after greatest width most decimal wide left zeros is row token shape =
     let datum : datum_at kind row token ≡ natural token.number = unsigned_datum kind greatest row token is in
     let range = in_range kind greatest token.number is shape.1 in
     record {

@@ -210,8 +210,8 @@ bounds_small I64 greatest middle is = omega (arith, is.0)
 bounds_small Isize greatest middle is = omega (arith, is.0)
 bounds_small _ greatest middle is = absurd is
 
-pub serves_bits : NumeralOfValue → (f : ConversionSpecifier) (kind : Kind) (after : List ℕ) (notation : Notation) (width inner greatest middle : ℕ) → f.conversion_type ≡ conversion_of notation → number_of f.width ≡ Some width → IsFilledByZeros f width
-    → inner ≡ width - length (prefix_in notation f.alt_form) → AreBounds kind greatest middle → Serves f kind after (Bits (record { notation = notation; prefix = f.alt_form; width = inner; greatest = greatest; middle = middle }))
-serves_bits law f kind after notation width inner greatest middle conversion wide zeros room bounds row token shape =
+pub serves_bits : NumeralOfValue → (f : ConversionSpecifier) (kind : Kind) (after : List ℕ) (notation : Notation) (width inner most greatest middle : ℕ) → f.conversion_type ≡ conversion_of notation → number_of f.width ≡ Some width → IsFilledByZeros f width
+    → inner ≡ width - length (prefix_in notation f.alt_form) → AreBounds kind greatest middle → Serves f kind after (Bits (record { notation = notation; prefix = f.alt_form; width = inner; most = most; greatest = greatest; middle = middle }))
+serves_bits law f kind after notation width inner most greatest middle conversion wide zeros room bounds row token shape =
     serves_kind f notation kind after row token greatest middle shape.bits conversion bounds shape.wide
     (form_text law f notation width inner shape.bits (token_text row token) shape.digits conversion wide zeros room shape.whole shape.filled (omega (arith, shape.wide.small, bounds_small kind greatest middle bounds)))

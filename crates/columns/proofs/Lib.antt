@@ -4,4 +4,5 @@ pub mod Filled
 pub mod Forms
 pub mod Integers
 pub mod Rows
+pub mod Tables
 pub mod Words

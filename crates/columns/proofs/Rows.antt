@@ -38,7 +38,7 @@ utf8_behind text front rest whole utf8 front_utf8 =
 -- what a field takes is a text
 shape_utf8 : (take_by : Take) (text : List ℕ) (number : ℕ) → Shape take_by text number → IsUtf8 text
 shape_utf8 (Natural greatest) text number shape = IsUtf8-from_ascii text (IsAscii-from_digits text shape.0.digits.digits)
-shape_utf8 (Filled greatest width) text number shape = IsUtf8-from_ascii text (IsAscii-from_digits text shape.0.digits.digits)
+shape_utf8 (Filled greatest width most) text number shape = IsUtf8-from_ascii text (IsAscii-from_digits text shape.0.digits.digits)
 shape_utf8 (Integer greatest plus) text number shape = integer_utf8 greatest plus text number shape
 shape_utf8 (Bits form) text number shape = form_utf8 form text number shape
 shape_utf8 (Word stop) text number shape = shape.1.utf8

@@ -4,6 +4,7 @@ ghost use Rattle.columns.specs.Inner.Shapes.{base_of, is_upper, prefix_in, safe_
 ghost use Rattle.columns.specs.Inner.Serves.{AreBounds};
 ghost use Rattle.columns.specs.declared.take.Take.TheVariants.{Bits};
 
+use crate::digit_tables::{LOWER, UPPER};
 use crate::number::has_zero_in_front;
 use crate::step::behind;
 use values::Kind;
@@ -24,6 +25,8 @@ pub(crate) struct Form {
     pub(crate) prefix: bool,
     /// How many digits there are at least.
     pub(crate) width: usize,
+    /// How many are looked at, at most, since another field's may follow.
+    pub(crate) most: usize,
     /// The greatest number that the digits may stand for.
     pub(crate) greatest: u64,
     /// The greatest of these whose bits are not those of a negative number.
@@ -91,9 +94,8 @@ fn octal_digit(byte: u8) -> Option<u8>
 fn lower_digit(byte: u8) -> Option<u8>
     ensures { IfSome result (IsDigit 16 false byte) }
 {
-    match byte {
-        b'0'..=b'9' => Some(byte - b'0'),
-        b'a'..=b'f' => Some(byte - b'a' + 10),
+    match LOWER[usize::from(byte)] {
+        digit @ 0..=15 => Some(digit),
         _ => None,
     }
 }
@@ -103,17 +105,16 @@ fn lower_digit(byte: u8) -> Option<u8>
 fn upper_digit(byte: u8) -> Option<u8>
     ensures { IfSome result (IsDigit 16 true byte) }
 {
-    match byte {
-        b'0'..=b'9' => Some(byte - b'0'),
-        b'A'..=b'F' => Some(byte - b'A' + 10),
+    match UPPER[usize::from(byte)] {
+        digit @ 0..=15 => Some(digit),
         _ => None,
     }
 }
 
 impl Notation {
-    // The base of the notation.
+    /// The base of the notation.
     #[inline(always)]
-    fn base(self) -> u64
+    pub(crate) fn base(self) -> u64
         ensures { result ≡ base_of self }
     {
         match self {
@@ -178,12 +179,28 @@ fn digits_in_front(text: &[u8], notation: Notation) -> (u64, usize)
     }
 }
 
-// The number in front, filled with zeros to the width, and what stands behind it.
+// The same, where at most so many digits are looked at.
 #[inline(always)]
-fn filled_in_front(text: &[u8], notation: Notation, width: usize) -> Option<(u64, &[u8])>
+fn few_digits_in_front(text: &[u8], notation: Notation, most: usize) -> (u64, usize)
+    ensures digits { AreDigits (base_of notation) (is_upper notation) (take result.1 text.now) result.0 }
+    ensures within { result.1 ≤ length text.now }
+{
+    let front = &text[..text.len().min(most)];
+    let (number, count) = digits_in_front(front, notation);
+    (number, count)
+}
+
+// The number in front, filled with zeros to the width, in at most so many digits, and what stands behind it.
+#[inline(always)]
+fn filled_in_front(
+    text: &[u8],
+    notation: Notation,
+    width: usize,
+    most: usize,
+) -> Option<(u64, &[u8])>
     ensures { IfSome result (λ found. IsFilledInFront notation width text.now found.0 found.1.now) }
 {
-    let (number, count) = digits_in_front(text, notation);
+    let (number, count) = few_digits_in_front(text, notation, most);
     if count == 0 || count < width {
         return None;
     }
@@ -213,6 +230,6 @@ pub(crate) fn take_bits(text: &[u8], form: Form) -> Option<(u64, &[u8])>
     ensures { IfSome result (λ found. IsTaken (Bits form) text.now found.0 found.1.now) }
 {
     let digits = behind_prefix(text, form.notation, form.prefix)?;
-    let (bits, rest) = filled_in_front(digits, form.notation, form.width)?;
+    let (bits, rest) = filled_in_front(digits, form.notation, form.width, form.most)?;
     Some((widened(bits, form.greatest, form.middle)?, rest))
 }

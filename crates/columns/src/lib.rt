@@ -1,6 +1,7 @@
 //! Rows read by the columns of their format into tokens, without printing them again: a way that may say no, and whose yes is proved.
 #![tactic(auto)]
 
+mod digit_tables;
 mod hexadecimal;
 mod integer;
 mod number;

@@ -80,6 +80,17 @@ pub(crate) fn take_natural(text: &[u8], greatest: u64) -> Option<(u64, &[u8])>
     (number <= greatest).then_some((number, rest))
 }
 
+// The number that the digits in front are, of which at most so many are looked at, and how many they are.
+#[inline(always)]
+fn few_digits_in_front(text: &[u8], most: usize) -> Option<(u64, usize)>
+    ensures digits { IfSome result (λ found. AreDigits 10 false (take found.1 text.now) found.0) }
+    ensures within { IfSome result (λ found. found.1 ≤ length text.now) }
+{
+    let front = &text[..text.len().min(most)];
+    let (number, count) = long_digits_in_front(front)?;
+    Some((number, count))
+}
+
 /// Whether digits begin with a zero in front of others.
 #[inline(always)]
 pub(crate) fn has_zero_in_front(text: &[u8], count: usize) -> bool
@@ -89,12 +100,18 @@ pub(crate) fn has_zero_in_front(text: &[u8], count: usize) -> bool
     count > 1 && text[0] == b'0'
 }
 
-/// The number in front, filled with zeros to the width, and what stands behind it; of at most this.
+/// The number in front, filled with zeros to the width, and what stands behind it; of at most this, and in at most so many
+/// digits.
 #[inline(always)]
-pub(crate) fn take_filled(text: &[u8], greatest: u64, width: usize) -> Option<(u64, &[u8])>
-    ensures { IfSome result (λ found. IsTaken (Filled greatest width) text.now found.0 found.1.now) }
+pub(crate) fn take_filled(
+    text: &[u8],
+    greatest: u64,
+    width: usize,
+    most: usize,
+) -> Option<(u64, &[u8])>
+    ensures { IfSome result (λ found. IsTaken (Filled greatest width most) text.now found.0 found.1.now) }
 {
-    let (number, count) = long_digits_in_front(text)?;
+    let (number, count) = few_digits_in_front(text, most)?;
     if count == 0 || count < width || number > greatest {
         return None;
     }

@@ -17,15 +17,26 @@ use values::Kind;
 #[derive(Clone, Copy)]
 pub(crate) enum Take {
     /// A number of at most this, as numbers are printed in decimal.
-    Natural { greatest: u64 },
-    /// Such a number, filled with zeros to the width.
-    Filled { greatest: u64, width: usize },
+    Natural {
+        greatest: u64,
+    },
+    /// Such a number, filled with zeros to the width; at most so many digits are looked at, since another field's may follow.
+    Filled {
+        greatest: u64,
+        width: usize,
+        most: usize,
+    },
     /// A number of at most this, or a negative one of at least its complement, with `+` in front where that is printed.
-    Integer { greatest: u64, plus: bool },
+    Integer {
+        greatest: u64,
+        plus: bool,
+    },
     /// A number by its bits.
     Bits(Form),
     /// A word without this byte, which is ASCII: the stop character, else a line feed.
-    Word { stop: u8 },
+    Word {
+        stop: u8,
+    },
 }
 
 // The greatest number of a kind without signs.
@@ -71,6 +82,14 @@ fn is_filled(field: &ConversionSpecifier) -> bool
     field.zero_pad && !field.left_adj
 }
 
+// How many digits a field has at most that zeros fill to the width.
+fn most_digits(greatest: u64, base: u64, width: usize) -> usize {
+    match greatest.checked_ilog(base) {
+        Some(log) => width.max(usize::try_from(log).unwrap_or(0).saturating_add(1)),
+        None => width.max(1),
+    }
+}
+
 // How the fields of a decimal conversion are taken that zeros fill to their widths.
 fn filled_take(field: &RowField, kind: Kind) -> Option<Take>
     requires { field.now.field.conversion_type ≡ ConversionType.DecInt }
@@ -80,9 +99,12 @@ fn filled_take(field: &RowField, kind: Kind) -> Option<Take>
     if !is_filled(field.field()) {
         return None;
     }
+    let greatest = greatest_of(kind)?;
+    let width = number_in(field.field().width)?;
     Some(Take::Filled {
-        greatest: greatest_of(kind)?,
-        width: number_in(field.field().width)?,
+        greatest,
+        width,
+        most: most_digits(greatest, 10, width),
     })
 }
 
@@ -149,10 +171,12 @@ fn bits_take(field: &RowField, kind: Kind, notation: Notation) -> Option<Take>
         return None;
     }
     let (greatest, middle) = bounds_of(kind)?;
+    let width = width.saturating_sub(prefix_len(notation, spec.alt_form));
     Some(Take::Bits(Form {
         notation,
         prefix: spec.alt_form,
-        width: width.saturating_sub(prefix_len(notation, spec.alt_form)),
+        width,
+        most: most_digits(greatest, notation.base(), width),
         greatest,
         middle,
     }))
@@ -217,7 +241,11 @@ impl Take {
     {
         match self {
             Take::Natural { greatest } => take_natural(text, greatest),
-            Take::Filled { greatest, width } => take_filled(text, greatest, width),
+            Take::Filled {
+                greatest,
+                width,
+                most,
+            } => take_filled(text, greatest, width, most),
             Take::Integer { greatest, plus } => take_integer(text, greatest, plus),
             Take::Bits(form) => take_bits(text, form),
             Take::Word { stop } => take_word(text, stop),

@@ -124,7 +124,7 @@ pub record IsWord (stop : ℕ) (text : List ℕ) : Type 0 where
 -- The text and the number that a field may take.
 abbrev pub Shape : Take → List ℕ → ℕ → Type 0
 Shape (Natural greatest) text number = IsNatural 10 false text number × (number ≤ greatest)
-Shape (Filled greatest width) text number = IsFilled 10 false width text number × (number ≤ greatest)
+Shape (Filled greatest width most) text number = IsFilled 10 false width text number × (number ≤ greatest)
 Shape (Integer greatest plus) text number = IsNegative greatest text number ⊎ IsPositive greatest (plus_sign plus) text number
 Shape (Bits form) text number = IsOfForm form text number
 Shape (Word stop) text number = (number ≡ 0) × IsWord stop text
