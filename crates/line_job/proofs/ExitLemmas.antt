@@ -29,7 +29,7 @@ ends_refused ends rules before stage owed old source' output output' stop of_lin
   kept = tt;
   lines = tt;
   refused = λ _. refused;
-  no_read_after = λ _. early;
+  read_no_further = λ _. early;
   too_long = λ e. absurd (no_refusal stop TooLong of_lines (λ h. h) e);
   within = inr within;
   gave = gave;
@@ -62,7 +62,7 @@ exit_end ends rules before stage owed tail old new output output' ended ends_her
   lines = none_is (ends.supply.rest (reader_source old)) (ends.supply.rest (reader_source new)) (reader_waiting old) (λ bytes. (before + length (lines_of bytes) ≡ before) × (length bytes ≤ left (view_of old)))
       ended.gave.bytes ended.none ended.end (omega arith, omega arith);
   refused = tt;
-  no_read_after = tt;
+  read_no_further = tt;
   too_long = λ e. absurd (cc);
   within = inr (omega (arith, ended.gave.count));
   gave = gave_none ends old new ended;
@@ -136,7 +136,7 @@ exit_failed ends rules before stage old new output failed within =
       kept = tt;
       lines = tt;
       refused = λ h. absurd h;
-      no_read_after = λ h. absurd h;
+      read_no_further = λ h. absurd h;
       too_long = λ e. absurd (cc);
       within = inr (omega (arith, failed.waits.gave.count, failed.waits.taken, failed.limit, within));
       gave = (failed.waits.got, failed.waits.gave.bytes, failed.waits.gave.count);
@@ -172,7 +172,7 @@ exit_passed ends rules before stage owed old new output output' passed sent wrot
       kept = tt;
       lines = tt;
       refused = λ h. absurd h;
-      no_read_after = λ h. absurd h;
+      read_no_further = λ h. absurd h;
       too_long = λ e. omega (arith, given, one, p.taken, p.full, passed.limit);
       within = inl refl;
       gave = (p.got ++ p.probe, p.gave.bytes, p.gave.count);
@@ -200,7 +200,7 @@ exit_starved ends rules before stage owed old new output output' quiet sent wrot
   kept = tt;
   lines = tt;
   refused = λ h. absurd h;
-  no_read_after = λ h. absurd h;
+  read_no_further = λ h. absurd h;
   too_long = λ e. absurd (cc);
   within = inr quiet.within;
   gave = (quiet.got, quiet.gave.bytes, quiet.gave.count);
@@ -236,7 +236,7 @@ exit_write_fault ends rules before stage owed old new output output' quiet rose 
   kept = tt;
   lines = tt;
   refused = λ h. absurd h;
-  no_read_after = λ h. absurd h;
+  read_no_further = λ h. absurd h;
   too_long = λ e. absurd (cc);
   within = inr quiet.within;
   gave = (quiet.got, quiet.gave.bytes, quiet.gave.count);

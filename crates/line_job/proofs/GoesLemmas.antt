@@ -177,11 +177,11 @@ goes_line {Stage = Stage} ends rules before stage next owed first old new source
                 (refused_more rules (reaches_end l1 bytes) before stage next (without_feed line) first h.0 (reached_lines l1 bytes) stop keeps h.1)),
             grew_assoc held held' owed first h.0 h.2,
           )) (before_ of_lines)) goes.refused;
-      no_read_after = if_err result _ _ (λ stop before_ of_lines. moves r0 r1 w0 w1 line takes.got
+      read_no_further = if_err result _ _ (λ stop before_ of_lines. moves r0 r1 w0 w1 line takes.got
           (λ bytes. WereKept rules (before + 1) next (ended_lines (seen1 - one_read) bytes))
           (λ bytes. WereKept rules before stage (ended_lines (seen0 - one_read) bytes))
           takes.gave.bytes takes.cut takes.first takes.unended
-          (λ bytes begun h. kept_early rules before stage next line bytes first seen0 seen1 keeps begun see h) (before_ of_lines)) goes.no_read_after;
+          (λ bytes begun h. kept_early rules before stage next line bytes first seen0 seen1 keeps begun see h) (before_ of_lines)) goes.read_no_further;
       too_long = λ e. (let h : ends.supply.given source' ≡ ends.supply.given (reader_source new) + (reader_limit new - reader_taken new) + 1 = goes.too_long e in omega (arith, h, n.gave, n.room));
       within = elim goes.within [
         | inl e ↦ inl e
@@ -256,7 +256,7 @@ goes_sent ends rules before stage owed old source' output mid output' result sen
       kept = on_ok result (maps r0 _ _ (λ bytes h. (h.0, (h.1.0, h.1.1, on h.1.0 h.1.2)))) goes.kept;
       lines = goes.lines;
       refused = if_err result _ _ (λ stop before_ of_lines. maps r0 _ _ (λ bytes h. (h.0, h.1, on h.0 h.2)) (before_ of_lines)) goes.refused;
-      no_read_after = goes.no_read_after;
+      read_no_further = goes.read_no_further;
       too_long = goes.too_long;
       within = goes.within;
       gave = goes.gave;

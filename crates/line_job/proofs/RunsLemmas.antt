@@ -62,7 +62,7 @@ ok_is rules clear start supply held sink_faults input input' output output' limi
       lines = maps (supply.rest input) _ _ (λ bytes count. omega (arith, count.0)) goes.lines;
       within = within;
       refused = tt;
-      no_read_after = tt;
+      read_no_further = tt;
       refuses = both (supply.rest input) _ _ _ (λ bytes here count text stop bad. absurd (never_both rules clear start limit bytes here.1.0 text stop here.1.1 (omega (arith, count.1)) bad)) goes.kept goes.lines;
       too_long = ((λ e. absurd (cc)), (λ lt. absurd (omega (arith, within, lt))));
       taken = omega (arith, within);
@@ -95,7 +95,7 @@ err_is {S = S} {K = K} {Stage = Stage} {Why = Why} rules clear start supply held
       lines = tt;
       within = tt;
       refused = refused;
-      no_read_after = λ of_lines. maps (supply.rest input) _ _ (λ bytes here. subst (λ (n : ℕ). WereKept rules 0 start (ended_lines (n - one_read) bytes)) seen here) (goes.no_read_after of_lines);
+      read_no_further = λ of_lines. maps (supply.rest input) _ _ (λ bytes here. subst (λ (n : ℕ). WereKept rules 0 start (ended_lines (n - one_read) bytes)) seen here) (goes.read_no_further of_lines);
       refuses = elim (sort_of stop) [
         | inl of_lines ↦ maps (supply.rest input) _ _ (λ bytes here text other bad. inl (ap refusal (refused_one rules clear (reaches_end limit bytes) 0 start (reached_lines limit bytes) here.0 text stop other here.1 bad).1)) (refused of_lines)
         | inr (inl is) ↦ maps (supply.rest input) _ _ (λ bytes here text other bad. absurd (kept_apart rules clear (reaches_end limit bytes) 0 start here.1.1 (ended_lines limit bytes) here.1.0 text other here.1.2 (λ end. absurd (ends_not limit bytes here.0 end))

@@ -43,9 +43,9 @@ pub record Runs {Stage Why : Type 0} (rules : Rules Stage Why) (start : Stage) (
   pub refused : IfErr result (λ stop. IsOfLines stop → IfSome input.before.rest (λ bytes. (text : List ℕ) × IsRefused rules start limit bytes text stop × Took output text))
   -- and it comes wherever what is reached gives it
   pub refuses : IfSome input.before.rest (λ bytes. (text : List ℕ) (stop : Stop Why) → IsRefused rules start limit bytes text stop → IsErrOf result stop ⊎ StopsEarly result)
-  -- No read is made after the one in which the refused line comes: the lines that ended in what the source gave in this call before the
-  -- last 4096 bytes were kept, so the refused line isn't one of them.
-  pub no_read_after : IfErr result (λ stop. IsOfLines stop → IfSome input.before.rest (λ bytes. WereKept rules 0 start (ended_lines (input.after.given - input.before.given - one_read) bytes)))
+  -- After a refusal of a line what was read goes less than one read past that line: the lines that ended before the last 4096 bytes which
+  -- the source gave in this call were kept, so the refused line isn't one of them.
+  pub read_no_further : IfErr result (λ stop. IsOfLines stop → IfSome input.before.rest (λ bytes. WereKept rules 0 start (ended_lines (input.after.given - input.before.given - one_read) bytes)))
   -- past the limit: exactly where the source gave more than the limit in this call
   pub too_long : IsErrOf result TooLong ↔ (input.before.given + limit < input.after.given)
   -- no more than one byte past the limit is taken

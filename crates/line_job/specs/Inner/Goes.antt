@@ -86,7 +86,7 @@ pub record Goes {B K Stage Why : Type 0} (ends : Ends B K) (rules : Rules Stage 
   pub kept : OnOk result (Ahead ends old (λ bytes. IsAtEnd (ends.supply.rest source') × GrewAll rules place (ends.held output) (ends.held output') (lines_of bytes)))
   pub lines : IfOk result (λ n. Ahead ends old (λ bytes. (place.before + length (lines_of bytes) ≡ n) × (length bytes ≤ left old)))
   pub refused : IfErr result (λ stop. IsOfLines stop → Ahead ends old (GrewRefused rules place (ends.held output) (ends.held output') stop (left old)))
-  pub no_read_after : IfErr result (λ stop. IsOfLines stop
+  pub read_no_further : IfErr result (λ stop. IsOfLines stop
       → Ahead ends old (λ bytes. WereKept rules place.before place.stage (ended_lines (length old.waiting + (ends.supply.given source' - ends.supply.given old.source) - one_read) bytes)))
   pub too_long : IsErrOf result TooLong → ends.supply.given source' ≡ ends.supply.given old.source + old.room + 1
   pub within : IsErrOf result TooLong ⊎ (ends.supply.given source' ≤ ends.supply.given old.source + old.room)
