@@ -30,7 +30,7 @@ end_boundary {source} {text} h utf8 =
 
 -- the bytes between two such texts lie between characters
 pub fits_between : {source from to : List ℕ} → IsEnd source from → IsEnd from to → IsUtf8 from → IsUtf8 to → SpanFits source (between (length source) from to)
-fits_between {source} {from} {to} h k utf8 utf8' = record { ordered = omega (arith, end_length h, end_length k); from = end_boundary h utf8; to = end_boundary (end_trans h k) utf8' }
+fits_between {source} {from} {to} h k utf8 utf8' = (omega (arith, end_length h, end_length k), end_boundary h utf8, end_boundary (end_trans h k) utf8')
 
 -- a text whose first byte isn't 0 has one
 pub some_byte : (text : List ℕ) → 0 < get_or text 0 0 → 0 < length text

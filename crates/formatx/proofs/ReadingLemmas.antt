@@ -136,15 +136,15 @@ one_template source ss ts h k = (spells_same (length source) ss ts source [] [] 
 pub one_reading : HasOneReading
 one_reading source (Ok ss) (Ok ts) h k = ap (λ (xs : List Segment). let r : Result (List Segment) Fault = Ok xs in r) (one_template source ss ts h k)
 one_reading source (Ok ss) (Err f) h k =
-    let both = spells_same (length source) ss k.segments source [] k.rest h k.front (no_segment_at_end (length source)) (λ s rest is. no_segment (length source) s k.rest rest f is k.first) in
-    absurd (no_fault_at_end (length source) k.rest f (sym both.1) k.first)
+    let both = spells_same (length source) ss k.0 source [] k.1 h k.2 (no_segment_at_end (length source)) (λ s rest is. no_segment (length source) s k.1 rest f is k.3) in
+    absurd (no_fault_at_end (length source) k.1 f (sym both.1) k.3)
 one_reading source (Err f) (Ok ts) h k =
-    let both = spells_same (length source) h.segments ts source h.rest [] h.front k (λ s rest is. no_segment (length source) s h.rest rest f is h.first) (no_segment_at_end (length source)) in
-    absurd (no_fault_at_end (length source) h.rest f both.1 h.first)
+    let both = spells_same (length source) h.0 ts source h.1 [] h.2 k (λ s rest is. no_segment (length source) s h.1 rest f is h.3) (no_segment_at_end (length source)) in
+    absurd (no_fault_at_end (length source) h.1 f both.1 h.3)
 one_reading source (Err f) (Err g) h k =
-    let both = spells_same (length source) h.segments k.segments source h.rest k.rest h.front k.front (λ s rest is. no_segment (length source) s h.rest rest f is h.first) (λ s rest is. no_segment (length source) s k.rest rest g is k.first) in
-    let first = subst (λ (xs : List ℕ). BeginsWithFault (length source) xs f) both.1 h.first in
-    ap (λ (x : Fault). let r : Result (List Segment) Fault = Err x in r) (fault_same (length source) k.rest f g first k.first)
+    let both = spells_same (length source) h.0 k.0 source h.1 k.1 h.2 k.2 (λ s rest is. no_segment (length source) s h.1 rest f is h.3) (λ s rest is. no_segment (length source) s k.1 rest g is k.3) in
+    let first = subst (λ (xs : List ℕ). BeginsWithFault (length source) xs f) both.1 h.3 in
+    ap (λ (x : Fault). let r : Result (List Segment) Fault = Err x in r) (fault_same (length source) k.1 f g first k.3)
 
 -- a source with a fault is no template
 pub not_both : (source : List ℕ) (fault : Fault) (ss : List Segment) → HasFault source fault → Spells source ss → ⊥
@@ -169,7 +169,7 @@ tells_wider e P Q wider (inr none) = inr none
 
 -- where some segments end, a fault is the first of the source
 pub first_fault : (source rest : List ℕ) (ss : List Segment) (fault : Fault) → SpellsTo (length source) ss source rest → BeginsWithFault (length source) rest fault → HasFault source fault
-first_fault source rest ss fault front first = record { segments = ss; rest = rest; front = front; first = first }
+first_fault source rest ss fault front first = (ss, rest, front, first)
 
 -- where a segment stands
 abbrev pub StandsAt : ℕ → ℕ → Segment → Type 0

@@ -32,43 +32,43 @@ abbrev Faulty : List ℕ → ℕ → ℕ → List ℕ → Type 0
 Faulty source start end message = HasFault source (unreadable (span start end) message)
 
 lone : Faulty (codes "a}") 1 2 (codes "unmatched `}`")
-lone = record { segments = Literal (span 0 1) ∷ []; rest = codes "}"; front = (codes "}", (refl, omega arith, refl), refl); first = inl (refl, refl) }
+lone = (Literal (span 0 1) ∷ [], codes "}", (codes "}", (refl, omega arith, refl), refl), inl (refl, refl))
 
 fault1 : Faulty (codes "{") 1 1 (codes "unexpected end of format string")
 unfolding placeholder_of spec_of options_of argument_of count_of precision_of type_of chars encode_utf8
-fault1 = record { segments = []; rest = codes "{"; front = refl; first = inr (refl, refl) }
+fault1 = ([], codes "{", refl, inr (refl, refl))
 
 fault2 : Faulty (codes "{0") 1 2 (codes "invalid placeholder argument")
 unfolding placeholder_of spec_of options_of argument_of count_of precision_of type_of chars encode_utf8
-fault2 = record { segments = []; rest = codes "{0"; front = refl; first = inr (refl, refl) }
+fault2 = ([], codes "{0", refl, inr (refl, refl))
 
 fault3 : Faulty (codes "{:0width$}") 3 4 (codes "unknown format type: `w`")
 unfolding placeholder_of spec_of options_of argument_of count_of precision_of type_of chars encode_utf8
-fault3 = record { segments = []; rest = codes "{:0width$}"; front = refl; first = inr (refl, refl) }
+fault3 = ([], codes "{:0width$}", refl, inr (refl, refl))
 
 fault4 : Faulty (codes "{:.") 2 3 (codes "expected precision after `.`")
 unfolding placeholder_of spec_of options_of argument_of count_of precision_of type_of chars encode_utf8
-fault4 = record { segments = []; rest = codes "{:."; front = refl; first = inr (refl, refl) }
+fault4 = ([], codes "{:.", refl, inr (refl, refl))
 
 fault5 : Faulty (codes "{:.}") 2 3 (codes "expected precision value after `.`")
 unfolding placeholder_of spec_of options_of argument_of count_of precision_of type_of chars encode_utf8
-fault5 = record { segments = []; rest = codes "{:.}"; front = refl; first = inr (refl, refl) }
+fault5 = ([], codes "{:.}", refl, inr (refl, refl))
 
 fault6 : Faulty (codes "{:5") 0 3 (codes "unmatched `{`")
 unfolding placeholder_of spec_of options_of argument_of count_of precision_of type_of chars encode_utf8
-fault6 = record { segments = []; rest = codes "{:5"; front = refl; first = inr (refl, refl) }
+fault6 = ([], codes "{:5", refl, inr (refl, refl))
 
 fault7 : Faulty (codes "{:18446744073709551616}") 2 22 (codes "invalid count: `18446744073709551616`")
 unfolding placeholder_of spec_of options_of argument_of count_of precision_of type_of chars encode_utf8
-fault7 = record { segments = []; rest = codes "{:18446744073709551616}"; front = refl; first = inr (refl, refl) }
+fault7 = ([], codes "{:18446744073709551616}", refl, inr (refl, refl))
 
 fault8 : Faulty (codes "{:18446744073709551616$}") 2 22 (codes "invalid count parameter: `18446744073709551616`")
 unfolding placeholder_of spec_of options_of argument_of count_of precision_of type_of chars encode_utf8
-fault8 = record { segments = []; rest = codes "{:18446744073709551616$}"; front = refl; first = inr (refl, refl) }
+fault8 = ([], codes "{:18446744073709551616$}", refl, inr (refl, refl))
 
 fault9 : Faulty (codes "{99999999999999999999}") 1 21 (codes "invalid positional argument: `99999999999999999999`")
 unfolding placeholder_of spec_of options_of argument_of count_of precision_of type_of chars encode_utf8
-fault9 = record { segments = []; rest = codes "{99999999999999999999}"; front = refl; first = inr (refl, refl) }
+fault9 = ([], codes "{99999999999999999999}", refl, inr (refl, refl))
 
 -- what a source of one placeholder prints over values, strictly
 abbrev printed : Placeholder → List Meaning → Result (List ℕ) Fault

@@ -3,7 +3,8 @@ use Rattle.std.proofs.Common.{◌≡◌, ℕ, zero, suc, ◌+◌, ◌<◌, List,
 use Rattle.std.proofs.Common.{add-one}
 use Rattle.std.proofs.Math.Seq.{drop-cons}
 use Rattle.std.specs.Prelude.{◌↔◌, Contains}
-use Rattle.formatx.specs.Templates.{names_in, segment_names}
+use Rattle.formatx.specs.Templates.{segment_names}
+use Rattle.formatx.specs.Inner.Parts.{names_in}
 use Rattle.formatx.specs.declared.ast.Segment.{Segment}
 
 pub Contains-head : (x : List ℕ) (xs : List (List ℕ)) → Contains (x ∷ xs) x

@@ -33,12 +33,9 @@ count_of scene (Param (ByName s)) =
 abbrev pub width_of : Scene → Option Count → Result (Option ℕ) Fault
 width_of scene width = option_map_or (λ c. count_of scene c >>= λ n. Ok (Some n)) width (Ok None)
 
--- the precision that the next implicit position holds
-abbrev pub star_precision : Scene → ℕ → Result ℕ Fault
-star_precision scene next = number_at scene next (codes "not enough arguments for `.*` precision") (codes "`.*` precision argument ")
-
 -- a precision: `.*` takes the next implicit position
 abbrev pub precision_of : Scene → ℕ → Option Precision → Result (Option ℕ) Fault
 precision_of scene next None = Ok None
 precision_of scene next (Some (Counted c)) = width_of scene (Some c)
-precision_of scene next (Some Star) = star_precision scene next >>= λ n. Ok (Some n)
+precision_of scene next (Some Star) =
+    number_at scene next (codes "not enough arguments for `.*` precision") (codes "`.*` precision argument ") >>= λ n. Ok (Some n)

@@ -74,19 +74,12 @@ abbrev pub padded : FormatSpec → Shape → Option ℕ → Body → List ℕ
 padded spec shape width body =
     laid_out (unwrap_or spec.fill (byte " ")) (padding_of spec shape (gap_of width body)) body
 
--- the text of a value under a type
-abbrev pub text_by : FormatType → Meaning → List ℕ
-text_by Debug m = m.debug Plain
-text_by DebugLowerHex m = m.debug LowerHex
-text_by DebugUpperHex m = m.debug UpperHex
-text_by _ m = m.display
-
--- the shape of that text; in hexadecimal it is raw
-abbrev pub shape_by : FormatType → Meaning → Shape
-shape_by Debug m = m.debug_shape
-shape_by DebugLowerHex m = Raw
-shape_by DebugUpperHex m = Raw
-shape_by _ m = m.display_shape
+-- the text of a value under a type, and its shape; in hexadecimal it is raw
+abbrev pub shown_by : FormatType → Meaning → List ℕ × Shape
+shown_by Debug m = (m.debug Plain, m.debug_shape)
+shown_by DebugLowerHex m = (m.debug LowerHex, Raw)
+shown_by DebugUpperHex m = (m.debug UpperHex, Raw)
+shown_by _ m = (m.display, m.display_shape)
 
 -- the text of a field: sign, precision and width by the shape
 abbrev pub shaped : FormatSpec → Shape → Option ℕ → Option ℕ → List ℕ → List ℕ
@@ -94,4 +87,4 @@ shaped spec shape width precision text = padded spec shape width (body_of shape 
 
 -- the text of one value under a specification, whose type says which of the value's texts it is
 abbrev pub field_text : FormatSpec → Meaning → Option ℕ → Option ℕ → List ℕ
-field_text spec m width precision = shaped spec (shape_by spec.format_type m) width precision (text_by spec.format_type m)
+field_text spec m width precision = shaped spec (shown_by spec.format_type m).1 width precision (shown_by spec.format_type m).0

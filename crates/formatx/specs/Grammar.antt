@@ -35,11 +35,9 @@ BeginsWithFault size text fault =
     ⊎ (IsTrue (is_single (byte "{") text) × (placeholder_of size text ≡ Err fault))
 
 -- the first fault of a source: it begins where some segments, which spell the front, end
-pub record HasFault (source : List ℕ) (fault : Fault) : Type 0 where
-  pub segments : List Segment
-  pub rest : List ℕ
-  pub front : SpellsTo (length source) segments source rest
-  pub first : BeginsWithFault (length source) rest fault
+abbrev pub HasFault : List ℕ → Fault → Type 0
+HasFault source fault =
+    (segments : List Segment) × (rest : List ℕ) × SpellsTo (length source) segments source rest × BeginsWithFault (length source) rest fault
 
 -- the source is a template of some segments
 abbrev pub IsTemplate : List ℕ → Type 0

@@ -2,4 +2,3 @@ pub mod Answers
 pub mod Ends
 pub mod Parts
 pub mod Scenes
-pub mod Parsed

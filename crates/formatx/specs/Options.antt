@@ -25,8 +25,7 @@ Read A = Result (A × List ℕ) Fault
 
 -- the alignment that a byte stands for
 abbrev pub align_by : ℕ → Option Align
-align_by c =
-    if c == byte "<" then Some Left else (if c == byte "^" then Some Center else (if c == byte ">" then Some Right else None))
+align_by c = lookup (λ mark. c == mark) (zip (codes "<^>") (Left ∷ Center ∷ Right ∷ []))
 
 -- the first character
 abbrev pub first_char : List ℕ → ℕ

@@ -16,10 +16,8 @@ use Rattle.formatx.specs.declared.ast.Segment.{Segment}
 use Rattle.formatx.specs.declared.ast.Segment.TheVariants.{Literal, Placeholder as Placed}
 
 -- the span lies in the text, and begins and ends between characters
-pub record SpanFits (source : List ℕ) (s : Span) : Type 0 where
-  pub ordered : s.start ≤ s.end
-  pub from : IsCharBoundary source s.start
-  pub to : IsCharBoundary source s.end
+abbrev pub SpanFits : List ℕ → Span → Type 0
+SpanFits source s = (s.start ≤ s.end) × IsCharBoundary source s.start × IsCharBoundary source s.end
 
 -- the span of an argument's name fits the text
 abbrev pub ArgumentFits : List ℕ → Argument → Type 0
@@ -36,16 +34,12 @@ abbrev pub PrecisionFits : List ℕ → Precision → Type 0
 PrecisionFits source (Counted c) = CountFits source c
 PrecisionFits source Star = ⊤
 
--- the names in a specification fit the text
-pub record SpecFits (source : List ℕ) (spec : FormatSpec) : Type 0 where
-  pub width : MatchOption spec.width ⊤ (CountFits source)
-  pub precision : MatchOption spec.precision ⊤ (PrecisionFits source)
-
 -- each span of the placeholder fits the text
 pub record PlaceholderFits (source : List ℕ) (p : Placeholder) : Type 0 where
   pub whole : SpanFits source p.span
   pub argument : ArgumentFits source p.argument
-  pub spec : SpecFits source p.spec
+  pub width : MatchOption p.spec.width ⊤ (CountFits source)
+  pub precision : MatchOption p.spec.precision ⊤ (PrecisionFits source)
 
 -- each span of the segment fits the text
 abbrev pub SegmentFits : List ℕ → Segment → Type 0

@@ -23,10 +23,6 @@ abbrev pub segment_names : List ℕ → Segment → List (List ℕ)
 segment_names source (Placed p) = argument_names source p.argument
 segment_names source _ = []
 
--- the names of the placeholders in order, repeats kept; names of counts aren't among them
-abbrev pub names_in : List ℕ → List Segment → List (List ℕ)
-names_in source segments = flat_map (segment_names source) segments
-
--- these are the names in a source: those in the segments that it spells
+-- these are the names in a source: those of the placeholders that it spells, in order, repeats kept; names of counts aren't among them
 abbrev pub HasNames : List ℕ → List (List ℕ) → Type 0
-HasNames source names = (segments : List Segment) × Spells source segments × (names ≡ names_in source segments)
+HasNames source names = (segments : List Segment) × Spells source segments × (names ≡ flat_map (segment_names source) segments)

@@ -32,13 +32,10 @@ integer_debug n bits UpperHex = numeral 16 true bits
 abbrev pub integer_meaning : ℤ → ℕ → Meaning
 integer_meaning n bits = record { display = decimal_of n; debug = integer_debug n bits; display_shape = Integer; debug_shape = Integer }
 
--- a truth value is written in words
-abbrev pub bool_text : Bool → List ℕ
-bool_text b = if b then codes "true" else codes "false"
-
--- a truth value is a text, the same for debugging
+-- a truth value is a text in words, the same for debugging
 abbrev pub bool_meaning : Bool → Meaning
-bool_meaning b = record { display = bool_text b; debug = λ _. bool_text b; display_shape = Text; debug_shape = Text }
+bool_meaning b =
+    let text = if b then codes "true" else codes "false" in record { display = text; debug = λ _. text; display_shape = Text; debug_shape = Text }
 
 -- a character between quotes: the quote and the backslash after a backslash, four control characters by a letter, the others by
 -- their hexadecimal digits, and every other character as it is

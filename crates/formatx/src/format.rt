@@ -1,13 +1,13 @@
 // Prints a parsed template over values.
-ghost use Rattle.std.specs.Prelude.{◌≡◌, ◌++◌, ◌+◌, ◌<◌, ◌≤◌, IfErr, IfOk, MatchOption, OnErr, OnOk, ⊤, IsFalse, ◌^◌, false, Some, None, Err, length, map, slice_get, string_bytes, option_map, option_copied};
+ghost use Rattle.std.specs.Prelude.{◌≡◌, ◌++◌, ◌+◌, ◌<◌, ◌≤◌, IfErr, IfOk, MatchOption, OnErr, OnOk, ⊤, IsFalse, ◌^◌, false, Some, None, Err, codes, length, map, slice_get, string_bytes, option_map, option_copied};
 ghost use Rattle.numerals.specs.Numeral.{numeral};
 ghost use Rattle.formatx.specs.Fault.{Tells};
 ghost use Rattle.formatx.specs.Inner.Answers.{Answers};
 ghost use Rattle.formatx.specs.Spans.{ArgumentFits, CountFits, Fits, PlaceholderFits, PrecisionFits, SegmentFits, SpanFits};
-ghost use Rattle.formatx.specs.Field.{aligned, body_of, by_shape, cut, field_text, gap_of, number_body, padding_of, shape_by, shaped, sign_text, text_by};
+ghost use Rattle.formatx.specs.Field.{aligned, body_of, by_shape, cut, field_text, gap_of, number_body, padding_of, shaped, shown_by, sign_text};
 ghost use Rattle.formatx.specs.Scene.{covered, scene_over};
 ghost use Rattle.formatx.specs.Inner.Scenes.{scene_of};
-ghost use Rattle.formatx.specs.Counts.{count_at_position, count_of, precision_of, star_precision, width_of};
+ghost use Rattle.formatx.specs.Counts.{count_at_position, count_of, number_at, precision_of, width_of};
 ghost use Rattle.formatx.specs.Inner.Parts.{number_of};
 ghost use Rattle.formatx.specs.Arguments.{argument_name, argument_takes, position_at, precision_takes, value_at};
 ghost use Rattle.formatx.specs.Text.{Appends, Holds, placeholder_text, present_text, rendered, segment_takes, segment_text, argument_text, supported, whole};
@@ -148,7 +148,7 @@ fn star_precision<V: FormatValue>(
     input: &Input<'_, V>,
     next: usize,
 ) -> Result<usize, Error>
-    ensures { Answers (λ a. a) (star_precision (scene_of V.meaning input.now) next) result }
+    ensures { Answers (λ a. a) (number_at (scene_of V.meaning input.now) next (codes "not enough arguments for `.*` precision") (codes "`.*` precision argument ")) result }
 {
     match value_in(input, next) {
         Some(value) => number_of(alloc, "`.*` precision argument ", value),
@@ -415,7 +415,7 @@ fn push_text<V: FormatValue>(
     value: &V,
     format_type: FormatType,
 ) -> Result<(), Error>
-    ensures ok { OnOk result (string_bytes out.new ≡ string_bytes out.old ++ text_by format_type (V.meaning value.now)) }
+    ensures ok { OnOk result (string_bytes out.new ≡ string_bytes out.old ++ (shown_by format_type (V.meaning value.now)).0) }
     ensures err { OnErr result (string_bytes out.new ≡ string_bytes out.old) }
     ensures memory { IfErr result (λ e. e ≡ Error.NoMemory) }
 {
@@ -429,7 +429,7 @@ fn push_text<V: FormatValue>(
 
 // The shape of that text.
 fn shape_by<V: FormatValue>(value: &V, format_type: FormatType) -> Shape
-    ensures { result ≡ shape_by format_type (V.meaning value.now) }
+    ensures { result ≡ (shown_by format_type (V.meaning value.now)).1 }
 {
     match format_type {
         FormatType::Debug => value.debug_shape(),

@@ -8,10 +8,10 @@ ghost use Rattle.formatx.specs.Words.{after, begins, is_plain, is_word, is_word_
 ghost use Rattle.formatx.specs.Options.{align_by, alternate_of, count_of, fill_align_of, first_char, follows_zero, number_count_of, number_in, precision_of, sign_of, type_by, type_of, zero_of};
 ghost use Rattle.formatx.specs.Placeholders.{argument_of, follows_argument, options_of, placeholder_of, spec_of};
 ghost use Rattle.formatx.specs.Grammar.{BeginsWithFault, HasFault, IsSegment, IsTemplate, Spells};
-ghost use Rattle.formatx.specs.Spans.{ArgumentFits, CountFits, Fits, PlaceholderFits, PrecisionFits, SegmentFits, SpanFits, SpecFits, Tiles};
+ghost use Rattle.formatx.specs.Spans.{ArgumentFits, CountFits, Fits, PlaceholderFits, PrecisionFits, SegmentFits, SpanFits, Tiles};
 ghost use Rattle.formatx.specs.Inner.Answers.{Answers};
 ghost use Rattle.formatx.specs.Inner.Ends.{IsEnd};
-ghost use Rattle.formatx.specs.Inner.Parts.{hex_of};
+ghost use Rattle.formatx.specs.Inner.Parts.{SpecFits, hex_of};
 
 use crate::ast::{
     Align, Argument, Count, CountParam, FormatSpec, FormatString, FormatType, Placeholder,

@@ -3,7 +3,8 @@ ghost use Rattle.std.specs.Prelude.{◌≡◌, ◌∷◌, ◌↔◌, ℕ, List, 
 ghost use Rattle.formatx.specs.Fault.{Tells};
 ghost use Rattle.formatx.specs.Grammar.{HasFault, IsTemplate};
 ghost use Rattle.formatx.specs.Spans.{Fits, SegmentFits};
-ghost use Rattle.formatx.specs.Templates.{HasNames, names_in, segment_names};
+ghost use Rattle.formatx.specs.Templates.{HasNames, segment_names};
+ghost use Rattle.formatx.specs.Inner.Parts.{names_in};
 ghost use Rattle.formatx.specs.Scene.{scene_over};
 ghost use Rattle.formatx.specs.Text.{AppendsPrinted, Prints};
 
@@ -27,13 +28,14 @@ pub struct Template {
 
 impl Model for Template {
     ghost use Rattle.std.specs.Prelude.{List, ℕ, string_bytes};
-    ghost use Rattle.formatx.specs.Inner.Parsed.{IsParsed};
+    ghost use Rattle.formatx.specs.Grammar.{Spells};
+    ghost use Rattle.formatx.specs.Spans.{Fits};
 
     ghost Value = { List ℕ };
 
     ghost view = { λ t. string_bytes t.source };
 
-    ghost invariant = { λ t. IsParsed (string_bytes t.source) t.parsed.segments.items };
+    ghost invariant = { λ t. Spells (string_bytes t.source) t.parsed.segments.items × Fits (string_bytes t.source) t.parsed.segments.items };
 }
 
 /// It shows the source.

@@ -1,6 +1,6 @@
 -- The names so far and then those of the other segments are all names.
 use Rattle.std.proofs.Common.{◌≡◌, ◌++◌, map, drop}
-use Rattle.formatx.specs.Templates.{names_in}
+use Rattle.formatx.specs.Inner.Parts.{names_in}
 use Rattle.formatx.proofs.template.collect_names.Given as goal
 
 abbrev pub invariant-segments : goal.invariant-segments

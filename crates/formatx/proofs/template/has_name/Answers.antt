@@ -2,7 +2,7 @@
 use Rattle.std.proofs.Common.{◌≡◌, ◌<◌, length, refl, sym, arith}
 use Rattle.std.proofs.lemmas.Slice.Eq.{bytes_eq-Decides}
 use Rattle.std.specs.Prelude.{Contains}
-use Rattle.formatx.specs.Templates.{names_in}
+use Rattle.formatx.specs.Inner.Parts.{names_in}
 use Rattle.formatx.specs.declared.ast.Segment.TheVariants.{Literal}
 use Rattle.formatx.proofs.TemplateLemmas.{pass_unnamed, pass_other, found_name}
 use Rattle.formatx.proofs.template.has_name.Goals as goal

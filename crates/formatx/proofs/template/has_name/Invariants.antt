@@ -1,7 +1,7 @@
 -- The name isn't among those so far.
 use Rattle.std.proofs.Common.{drop}
 use Rattle.std.specs.Prelude.{◌↔◌, Contains}
-use Rattle.formatx.specs.Templates.{names_in}
+use Rattle.formatx.specs.Inner.Parts.{names_in}
 use Rattle.formatx.proofs.template.has_name.Given as goal
 
 abbrev pub invariant-segments : goal.invariant-segments

@@ -2,7 +2,7 @@
 use Rattle.std.proofs.Common.{◌≡◌, List, ℕ, refl, subst}
 use Rattle.std.specs.Prelude.{◌↔◌, Contains, IsTrue, string_bytes}
 use Rattle.formatx.specs.Grammar.{Spells}
-use Rattle.formatx.specs.Templates.{names_in}
+use Rattle.formatx.specs.Inner.Parts.{names_in}
 use Rattle.formatx.proofs.template.Template.contains.Goals as goal
 
 pub returns : goal.returns
@@ -12,4 +12,4 @@ returns c =
     let list : c.as_slice.result.now ≡ segments = cc in
     let same : string_bytes c.self.inside.source ≡ c.args.self.now = cc in
     let both : IsTrue c.has_name.result ↔ Contains (names_in c.args.self.now segments) c.args.name.now = rw (source, list) at c.has_name.ensures in
-    (names_in c.args.self.now segments, (segments, subst (λ (xs : List ℕ). Spells xs segments) same c.self.invariant.spelled, refl), both)
+    (names_in c.args.self.now segments, (segments, subst (λ (xs : List ℕ). Spells xs segments) same c.self.invariant.0, refl), both)
