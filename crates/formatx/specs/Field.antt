@@ -1,5 +1,5 @@
 -- The text of one value under a specification whose width and precision are numbers.
-use Rattle.std.specs.Prelude.{ℕ, ◌+◌, ◌-◌, ◌/◌, Bool, true, false, ◌||◌, List, [], ◌++◌, length, take, drop, codes, chars, encode_utf8_all, if◌then◌else◌, is_some, Option, Some, unwrap_or}
+use Rattle.std.specs.Prelude.{ℕ, ◌+◌, ◌-◌, ◌/◌, Bool, ◌||◌, List, [], ◌++◌, length, take, drop, codes, chars, encode_utf8_all, if◌then◌else◌, is_some, Option, Some, unwrap_or}
 use Rattle.std.specs.Str.{byte}
 use Rattle.std.specs.Option.{option_map_or}
 use Rattle.padding.specs.Field.{fills}
@@ -55,8 +55,7 @@ aligned _ gap = record { left = 0; zeros = 0; right = gap }
 
 -- without fill and alignment a number is padded on the left, a text on the right, and a raw text not at all
 abbrev pub by_shape : Shape → Bool → ℕ → Padding
-by_shape Integer true gap = record { left = 0; zeros = gap; right = 0 }
-by_shape Integer false gap = record { left = gap; zeros = 0; right = 0 }
+by_shape Integer zero gap = if zero then record { left = 0; zeros = gap; right = 0 } else record { left = gap; zeros = 0; right = 0 }
 by_shape Text zero gap = record { left = 0; zeros = 0; right = gap }
 by_shape Raw zero gap = record { left = 0; zeros = 0; right = 0 }
 

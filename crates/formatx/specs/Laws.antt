@@ -16,15 +16,12 @@ use Rattle.formatx.specs.declared.ast.Segment.{Segment}
 use Rattle.formatx.specs.declared.ast.Segment.TheVariants.{Placeholder as Placed}
 use Rattle.formatx.specs.declared.value.Shape.TheVariants.{Raw}
 
--- the value of the segment's argument is there
-abbrev pub HasValue : Scene → ℕ → Segment → Type 0
-HasValue scene next (Placed p) = IsSome (value_at scene (next + precision_takes p.spec.precision) p.argument)
-HasValue scene next _ = ⊤
-
 -- no placeholder lacks its value
 abbrev pub AllHaveValues : Scene → ℕ → List Segment → Type 0
 AllHaveValues scene next [] = ⊤
-AllHaveValues scene next (s ∷ ss) = HasValue scene next s × AllHaveValues scene (next + segment_takes s) ss
+AllHaveValues scene next (Placed p ∷ ss) =
+    IsSome (value_at scene (next + precision_takes p.spec.precision) p.argument) × AllHaveValues scene (next + segment_takes (Placed p)) ss
+AllHaveValues scene next (s ∷ ss) = AllHaveValues scene (next + segment_takes s) ss
 
 -- strict and lenient printing agree where no placeholder lacks its value
 abbrev pub FinishesAgree : Type 0

@@ -72,21 +72,16 @@ number_in size text words =
     let digits = take_while is_ascii_digit text in
     ok_or (usize_of digits) (unreadable (between size text (after is_ascii_digit text)) (quoting words digits))
 
--- digits, as a number or, with `$` after them, as a position
-abbrev pub number_count_of : ℕ → List ℕ → Read (Option Count)
-number_count_of size text =
-    let rest = after is_ascii_digit text in
-    if begins rest (byte "$")
-    then (number_in size text (codes "invalid count parameter: ") >>= λ n. Ok (Some (Param (Positional n)), drop 1 rest))
-    else (number_in size text (codes "invalid count: ") >>= λ n. Ok (Some (Literal n), rest))
-
 -- a count: digits, digits and `$`, or an identifier and `$`
 unfoldable pub count_of : ℕ → List ℕ → Read (Option Count)
 count_of size text =
-    let rest = after is_word text in
-    if is_ascii_digit (slice_index text 0) then number_count_of size text else
-    (if is_word_start (slice_index text 0) && begins rest (byte "$")
-    then Ok (Some (Param (Named (between size text rest))), drop 1 rest)
+    let digits = after is_ascii_digit text in
+    let word = after is_word text in
+    if is_ascii_digit (slice_index text 0) then
+    (if begins digits (byte "$")
+    then (number_in size text (codes "invalid count parameter: ") >>= λ n. Ok (Some (Param (Positional n)), drop 1 digits))
+    else (number_in size text (codes "invalid count: ") >>= λ n. Ok (Some (Literal n), digits))) else
+    (if is_word_start (slice_index text 0) && begins word (byte "$") then Ok (Some (Param (Named (between size text word))), drop 1 word)
     else Ok (None, text))
 
 -- `.` and a count, or `.*`

@@ -5,13 +5,13 @@ ghost use Rattle.std.specs.List.{prefix_len, take_while};
 ghost use Rattle.std.specs.Str.{IsCharBoundary};
 ghost use Rattle.formatx.specs.Fault.{Tells, between, quoting, unreadable};
 ghost use Rattle.formatx.specs.Words.{after, begins, is_plain, is_word, is_word_start, usize_of};
-ghost use Rattle.formatx.specs.Options.{align_by, alternate_of, count_of, fill_align_of, first_char, follows_zero, number_count_of, number_in, precision_of, sign_of, type_by, type_of, zero_of};
+ghost use Rattle.formatx.specs.Options.{align_by, alternate_of, count_of, fill_align_of, first_char, follows_zero, number_in, precision_of, sign_of, type_by, type_of, zero_of};
 ghost use Rattle.formatx.specs.Placeholders.{argument_of, follows_argument, options_of, placeholder_of, spec_of};
 ghost use Rattle.formatx.specs.Grammar.{BeginsWithFault, HasFault, IsSegment, IsTemplate, Spells};
 ghost use Rattle.formatx.specs.Spans.{ArgumentFits, CountFits, Fits, PlaceholderFits, PrecisionFits, SegmentFits, SpanFits, Tiles};
 ghost use Rattle.formatx.specs.Inner.Answers.{Answers};
 ghost use Rattle.formatx.specs.Inner.Ends.{IsEnd};
-ghost use Rattle.formatx.specs.Inner.Parts.{SpecFits, hex_of};
+ghost use Rattle.formatx.specs.Inner.Parts.{SpecFits, hex_of, number_count_of};
 
 use crate::ast::{
     Align, Argument, Count, CountParam, FormatSpec, FormatString, FormatType, Placeholder,

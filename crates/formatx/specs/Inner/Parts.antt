@@ -1,10 +1,15 @@
 -- Parts of what is defined, which private calls answer.
-use Rattle.std.specs.Prelude.{ℕ, List, ◌++◌, flat_map, drop, codes, Result, ok_or, if◌then◌else◌, MatchOption, ⊤}
+use Rattle.std.specs.Prelude.{ℕ, List, ◌++◌, flat_map, drop, codes, Result, ok_or, Ok, Option, Some, if◌then◌else◌, MatchOption, ⊤}
+use Rattle.std.specs.Char.{is_ascii_digit}
 use Rattle.std.specs.Str.{byte}
-use Rattle.formatx.specs.Fault.{Fault, unreadable, span, quoting}
-use Rattle.formatx.specs.Words.{begins, usize_of}
+use Rattle.formatx.specs.Fault.{Fault, unreadable, span, quoting, ◌>>=◌}
+use Rattle.formatx.specs.Words.{begins, after, usize_of}
+use Rattle.formatx.specs.Options.{Read, number_in}
 use Rattle.formatx.specs.Spans.{CountFits, PrecisionFits}
 use Rattle.formatx.specs.Templates.{segment_names}
+use Rattle.formatx.specs.declared.ast.Count.{Count}
+use Rattle.formatx.specs.declared.ast.Count.TheVariants.{Literal, Param}
+use Rattle.formatx.specs.declared.ast.CountParam.TheVariants.{Positional}
 use Rattle.formatx.specs.declared.ast.FormatSpec.{FormatSpec}
 use Rattle.formatx.specs.declared.ast.FormatType.{FormatType}
 use Rattle.formatx.specs.declared.ast.Segment.{Segment}
@@ -12,6 +17,14 @@ use Rattle.formatx.specs.declared.ast.Segment.{Segment}
 -- the number that a text writes, or the message with that text between the words
 abbrev pub number_of : List ℕ → List ℕ → Result ℕ Fault
 number_of words text = ok_or (usize_of text) (unreadable (span 0 0) (quoting words text ++ codes " is not a valid usize"))
+
+-- digits, as a number or, with `$` after them, as a position
+abbrev pub number_count_of : ℕ → List ℕ → Read (Option Count)
+number_count_of size text =
+    let rest = after is_ascii_digit text in
+    if begins rest (byte "$")
+    then (number_in size text (codes "invalid count parameter: ") >>= λ n. Ok (Some (Param (Positional n)), drop 1 rest))
+    else (number_in size text (codes "invalid count: ") >>= λ n. Ok (Some (Literal n), rest))
 
 -- what follows an `x` or an `X`: with `?` there it is a debug type
 abbrev pub hex_of : List ℕ → FormatType → FormatType → FormatType × List ℕ
