@@ -15,7 +15,9 @@ use values::{Value, Word, read_decimal};
 /// The names of the first positions. In contracts they are the list of their texts.
 #[derive(Drop)]
 pub(crate) struct PositionNames {
+    /// The names in order.
     words: Vec<Word>,
+    /// The first position that each name stands for.
     positions: Names,
 }
 

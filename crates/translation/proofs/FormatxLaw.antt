@@ -1,5 +1,5 @@
 -- The template of formatx prints what the format of printf prints.
-use Rattle.std.proofs.Common.{◌≡◌, ℕ, ◌+◌, ◌<◌, ◌^◌, true, List, [], ◌∷◌, ◌++◌, length, Some, Ok, refl, ap, sym, ◌∙◌, subst, arith, append_assoc, length-append}
+use Rattle.std.proofs.Common.{◌≡◌, ℕ, ◌+◌, ◌<◌, ◌^◌, true, List, [], ◌∷◌, ◌++◌, length, Some, None, Ok, refl, ap, sym, ◌∙◌, subst, arith, append_assoc, length-append}
 use Rattle.std.specs.Prelude.{slice_get}
 use Rattle.numerals.specs.Laws.{NumeralIsStd}
 use Rattle.sprintf.specs.declared.parser.ConversionSpecifier.{ConversionSpecifier}
@@ -79,7 +79,7 @@ module _ (std : NumeralIsStd) (scene : Scene) where
 -- the law
 pub prints_formatx : NumeralIsStd → PrintsTheSame Formatx
 prints_formatx std elements kinds values template program ascii e =
-    let scene : Scene = record { source = template; values = each_of formatx_meaning kinds values; names = []; strict = true } in
+    let scene : Scene = record { source = template; values = each_of formatx_meaning kinds values; names = λ _. None; strict = true } in
     let at = all_there std scene [] 0 kinds values ascii refl refl (omega (arith, program.few)) in
     let r = shown_from (G std scene) (λ front h. shows_end scene) (plain_in std scene) (opens_in std scene) (closes_in std scene) Formatx (At std scene) (field_in std scene) 1 0 elements kinds values template program.numbers ascii at e in
     let s = r.shows [] refl in
