@@ -6,11 +6,12 @@ use Rattle.tokens.specs.declared.Token.{Token}
 use Rattle.tokens.specs.Tokens.{AreTokens, IsToken}
 use Rattle.columns.specs.Fields.{AreFieldsAt, IsFieldAt}
 use Rattle.pieces.specs.declared.layout.Form.{Form}
-use Rattle.pieces.specs.declared.layout.Form.TheVariants.{Copied}
-use Rattle.pieces.specs.Inner.Layout.{Part, part_text, parts_text, text_where}
-use Rattle.pieces.specs.Inner.Printf.{HasFormUnder}
+use Rattle.pieces.specs.declared.layout.Form.TheVariants.{Copied, Signed, WithoutPlus}
+use Rattle.pieces.specs.Inner.Layout.{Part, form_of, part_text, parts_text, text_where, without_plus}
+use Rattle.pieces.specs.Inner.Printf.{HasFormUnder, IsPlusNumber}
 use Rattle.pieces.specs.Inner.Copied.{AreSame, IsSamePart, IsSameValue}
 use Rattle.pieces.proofs.LayoutLemmas.{parts_text-step, parts_text-append}
+use Rattle.pieces.proofs.PrintfLemmas.{plus_told}
 
 some_is : {A : Type 0} (a b : A) → ◌≡◌ {A = Option A} (Some a) (Some b) → a ≡ b
 some_is a b e = cc
@@ -47,6 +48,15 @@ stands columns kinds place form column has there row tokens are fields =
     ∙ h.field.text
     ∙ ap text_or_none (has.2.prints row h.token h.is)
     ∙ sym (ap (λ (o : Option Token). text_where form row o) h.at)
+
+-- a number with a sign is printed plainly as it stands in the row without its plus sign
+pub stands_signed : (columns : List Column) (kinds : List Kind) (place : ℕ) (kind : Kind) (column : Column) → slice_get kinds place ≡ Some kind → form_of kind ≡ Some Signed → IsPlusNumber column.field → slice_get columns place ≡ Some column → IsSameValue columns kinds place Signed WithoutPlus
+stands_signed columns kinds place kind column at signed plus there row tokens are fields =
+    let h = field_here columns kinds row tokens place kind column are fields at there in
+    ap (λ (o : Option Token). text_where WithoutPlus row o) h.at
+    ∙ ap without_plus h.field.text
+    ∙ plus_told kind column.field row h.token signed plus
+    ∙ sym (ap (λ (o : Option Token). text_where Signed row o) h.at)
 
 -- the part of a value that is the same
 pub part_of : (columns : List Column) (kinds : List Kind) (before : List ℕ) (form other : Form) (place : ℕ) → IsSameValue columns kinds place form other

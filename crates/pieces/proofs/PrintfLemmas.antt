@@ -26,12 +26,12 @@ use Rattle.row_format.specs.Columns.{text_or_none}
 use Rattle.tokens.specs.declared.Token.{Token}
 use Rattle.tokens.specs.Tokens.{IsToken, datum_at}
 use Rattle.pieces.specs.declared.layout.Form.{Form}
-use Rattle.pieces.specs.declared.layout.Form.TheVariants.{Number, Signed, Copied, Field}
+use Rattle.pieces.specs.declared.layout.Form.TheVariants.{Number, Signed, Copied, WithoutPlus, Field}
 use Rattle.pieces.specs.declared.source.Source.{Source}
 use Rattle.pieces.specs.declared.source.Source.TheVariants.{Natural, Text}
-use Rattle.pieces.specs.Inner.Layout.{Parts, Grows, form_of, layout_text, text_where, token_text}
+use Rattle.pieces.specs.Inner.Layout.{Parts, Grows, form_of, layout_text, text_where, token_text, without_plus}
 use Rattle.pieces.specs.Inner.Source.{source_of, decimal_source, bits_source, word_source}
-use Rattle.pieces.specs.Inner.Printf.{HasFormUnder, HasNumbers, IsFormUnder, IsPlain, IsPlainNumber, IsPlainWord, Moves, TakesOne, meanings, printed_behind}
+use Rattle.pieces.specs.Inner.Printf.{HasFormUnder, HasNumbers, IsFormUnder, IsPlain, IsPlainNumber, IsPlainWord, IsPlusNumber, Moves, TakesOne, meanings, printed_behind}
 use Rattle.pieces.proofs.ValueLemmas.{here, none_left}
 
 -- ---- numbers
@@ -78,6 +78,35 @@ signed_plain f z complement p =
 
 digits_by : (conversion : ConversionType) (d c w : Result (List ℕ) PrintfError) → conversion ≡ DecInt → by_conversion conversion d c w ≡ d
 digits_by conversion d c w e = ap (λ (v : ConversionType). by_conversion v d c w) e
+
+-- the digits of a number behind a plus or minus sign
+
+plus_by : (plus space : Bool) → plus ≡ true → (if plus then codes "+" else (if space then codes " " else [])) ≡ codes "+"
+plus_by plus space e = rw e refl
+
+stripped : (f : ConversionSpecifier) (z : ℤ) → IsPlusNumber f → without_plus (sign_of f z ++ numeral 10 false (unsigned_abs z)) ≡ decimal_of z
+stripped f (pos n) p = ap (λ (sign : List ℕ). without_plus (sign ++ numeral 10 false n)) (plus_by f.force_sign f.space_sign p.plus)
+stripped f (negsuc n) p = refl
+
+plus_printed : (f : ConversionSpecifier) (z : ℤ) (complement : ℕ) (c w : Result (List ℕ) PrintfError) → IsPlusNumber f → without_plus (text_or_none (by_conversion f.conversion_type (signed_text f.conversion_type f z complement) c w)) ≡ decimal_of z
+plus_printed f z complement c w p =
+    ap (λ (r : Result (List ℕ) PrintfError). without_plus (text_or_none r))
+    (digits_by f.conversion_type (signed_text f.conversion_type f z complement) c w p.conversion ∙ signed_by f.conversion_type f z complement p.conversion ∙ number_by f f.conversion_type f.width (sign_of f z) (unsigned_abs z) p.conversion p.width)
+    ∙ stripped f z p
+
+pub plus_told : (kind : Kind) (f : ConversionSpecifier) (row : List ℕ) (token : Token) → form_of kind ≡ Some Signed → IsPlusNumber f → without_plus (text_or_none ((printf_meaning kind (datum_at kind row token)).text f)) ≡ token_text Signed row token
+plus_told Of.U8 f row token e p = cc
+plus_told Of.U16 f row token e p = cc
+plus_told Of.U32 f row token e p = cc
+plus_told Of.U64 f row token e p = cc
+plus_told Of.Usize f row token e p = cc
+plus_told Of.I8 f row token e p = plus_printed f (cast_signed w64 token.number) _ _ _ p
+plus_told Of.I16 f row token e p = plus_printed f (cast_signed w64 token.number) _ _ _ p
+plus_told Of.I32 f row token e p = plus_printed f (cast_signed w64 token.number) _ _ _ p
+plus_told Of.I64 f row token e p = plus_printed f (cast_signed w64 token.number) _ _ _ p
+plus_told Of.Isize f row token e p = plus_printed f (cast_signed w64 token.number) _ _ _ p
+plus_told Of.Word f row token e p = cc
+plus_told Of.Char f row token e p = cc
 
 -- ---- words
 
@@ -296,6 +325,7 @@ plain_takes : (form : Form) (f : ConversionSpecifier) (v : Meaning) (values : Li
 plain_takes Number f v values p = field_takes f.conversion_type Of.U8 Natural f v values (pos 0) p.precision.0 (ap (λ (c : ConversionType). source_of c Of.U8) p.conversion) p.width p.precision.1
 plain_takes Signed f v values p = field_takes f.conversion_type Of.U8 Natural f v values (pos 0) p.precision.0 (ap (λ (c : ConversionType). source_of c Of.U8) p.conversion) p.width p.precision.1
 plain_takes Copied f v values p = field_takes f.conversion_type Of.Word Text f v values (pos 0) (pos 2147483647) (ap (λ (c : ConversionType). source_of c Of.Word) p.conversion) p.width p.precision
+plain_takes WithoutPlus f v values p = absurd p
 plain_takes (Field source g) f v values p = absurd p
 
 -- ---- forms

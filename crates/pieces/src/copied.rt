@@ -1,10 +1,10 @@
 // Values that the rows of a format have as they are printed, and that are copied from there.
 ghost use Rattle.std.specs.Prelude.{◌≡◌, IfOk, IsTrue};
-ghost use Rattle.pieces.specs.declared.layout.Form.TheVariants.{Copied};
+ghost use Rattle.pieces.specs.declared.layout.Form.TheVariants.{Copied, Signed, WithoutPlus};
 ghost use Rattle.pieces.specs.Inner.Copied.{IsSameLayout, IsSamePart, IsSameValue};
 
-use crate::layout::{Form, Layout, Piece};
-use crate::printf_layout::form_under;
+use crate::layout::{Form, Layout, Piece, form_at};
+use crate::printf_layout::{form_under, is_plus_number};
 use numerals::NoMemory;
 use row_format::RowField;
 use std::alloc::Global;
@@ -23,14 +23,40 @@ fn stands_in_rows(form: Form, place: usize, fields: &[RowField], kinds: &[Kind])
     }
 }
 
+/// Whether the rows have a plus or minus sign in front of the digits of the number at a place.
+fn stands_behind_sign(place: usize, fields: &[RowField], kinds: &[Kind]) -> bool
+    ensures { IsTrue result → IsSameValue fields.now kinds.now place Signed WithoutPlus }
+{
+    if place >= fields.len() {
+        return false;
+    }
+    match form_at(kinds, place) {
+        Some(Form::Signed) => is_plus_number(fields[place].field()),
+        _ => false,
+    }
+}
+
+/// The form of a number that is printed plainly, over the rows.
+fn signed_over(place: usize, fields: &[RowField], kinds: &[Kind]) -> Form
+    ensures { IsSameValue fields.now kinds.now place Signed result }
+{
+    if stands_behind_sign(place, fields, kinds) {
+        Form::WithoutPlus
+    } else {
+        Form::Signed
+    }
+}
+
 /// The form of a value over the rows.
 fn form_over(form: Form, place: usize, fields: &[RowField], kinds: &[Kind]) -> Form
     ensures { IsSameValue fields.now kinds.now place form result }
 {
     if stands_in_rows(form, place, fields, kinds) {
-        Form::Copied
-    } else {
-        form
+        return Form::Copied;
+    }
+    match form {
+        Form::Signed => signed_over(place, fields, kinds),
+        _ => form,
     }
 }
 

@@ -2,7 +2,7 @@
 ghost use Rattle.std.specs.Prelude.{◌≡◌, ◌++◌, ◌<◌, false, IfSome, IsSome, IsTrue, OnErr, OnOk, length, option_copied, slice_get, string_bytes};
 ghost use Rattle.numerals.specs.Numeral.{numeral};
 ghost use Rattle.formatx.specs.Values.{decimal_of};
-ghost use Rattle.pieces.specs.Inner.Layout.{AreTokensOfSome, Grows, IsEmpty, IsTokenOfSome, Starts, form_of, layout_text, part_text, text_where, token_text};
+ghost use Rattle.pieces.specs.Inner.Layout.{AreTokensOfSome, Grows, IsEmpty, IsTokenOfSome, Starts, form_of, layout_text, part_text, text_where, token_text, without_plus};
 ghost use Rattle.pieces.specs.Inner.Sound.{HasForm};
 
 use crate::source::{Source, append_printed, is_same_field};
@@ -49,6 +49,17 @@ fn append_literal(text: &str, out: &mut String) -> Result<(), AllocError>
     }
 }
 
+/// The text without the plus sign in front, if it has one.
+#[inline(always)]
+fn without_plus(text: &str) -> &str
+    ensures { result.now ≡ without_plus text.now }
+{
+    match text.as_bytes() {
+        [b'+', ..] => &text[1..],
+        _ => text,
+    }
+}
+
 /// How a value of a row is printed.
 #[derive(Clone, Copy)]
 pub(crate) enum Form {
@@ -58,6 +69,8 @@ pub(crate) enum Form {
     Signed,
     /// As it stands in the row.
     Copied,
+    /// As it stands in the row, without the plus sign in front.
+    WithoutPlus,
     /// As a field of printf prints what it takes from the token.
     Field {
         source: Source,
@@ -86,6 +99,7 @@ impl Form {
             Form::Number => matches!(other, Form::Number),
             Form::Signed => matches!(other, Form::Signed),
             Form::Copied => matches!(other, Form::Copied),
+            Form::WithoutPlus => matches!(other, Form::WithoutPlus),
             Form::Field { source, field } => match other {
                 Form::Field {
                     source: other_source,
@@ -106,6 +120,7 @@ impl Form {
             Form::Number => append_number(token.number, out),
             Form::Signed => append_signed(token.number.cast_signed(), out),
             Form::Copied => out.push_str(&row[token.start..token.end]),
+            Form::WithoutPlus => out.push_str(without_plus(&row[token.start..token.end])),
             Form::Field { source, field } => append_printed(&source.value(row, token), field, out),
         }
     }

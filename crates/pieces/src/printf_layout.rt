@@ -3,7 +3,7 @@ ghost use Rattle.std.specs.Prelude.{◌≡◌, ◌∷◌, List, IfOk, IfSome, Is
 ghost use Rattle.sprintf.specs.declared.parser.FormatElement.{FormatElement as ElementOf};
 ghost use Rattle.sprintf.specs.declared.parser.FormatElement.TheVariants.{Format};
 ghost use Rattle.printer.specs.declared.dialect.Dialect.TheVariants as Of;
-ghost use Rattle.pieces.specs.Inner.Printf.{HasFormUnder, HasNumbers, IsFormUnder, IsPlain, IsPlainNumber, IsPlainWord, IsWhole, Moves};
+ghost use Rattle.pieces.specs.Inner.Printf.{HasFormUnder, HasNumbers, IsFormUnder, IsPlain, IsPlainNumber, IsPlainWord, IsPlusNumber, IsWhole, Moves};
 ghost use Rattle.pieces.specs.Inner.Sound.{StandsFor};
 
 use crate::layout::{Form, Layout};
@@ -30,6 +30,19 @@ fn is_plain_number(field: &ConversionSpecifier) -> bool
     !field.force_sign && !field.space_sign
 }
 
+/// Whether the field is a number's without width that prints a plus sign in front of numbers that are not negative.
+pub(crate) fn is_plus_number(field: &ConversionSpecifier) -> bool
+    ensures { IsTrue result → IsPlusNumber field.now }
+{
+    let ConversionType::DecInt = field.conversion_type else {
+        return false;
+    };
+    let NumericParam::Literal(0) = field.width else {
+        return false;
+    };
+    field.force_sign
+}
+
 /// Whether the field is a word's without width and precision.
 fn is_plain_word(field: &ConversionSpecifier) -> bool
     ensures { IsTrue result → IsPlainWord field.now }
@@ -54,7 +67,7 @@ fn is_plain(field: &ConversionSpecifier, form: Form) -> bool
         Form::Number => is_plain_number(field),
         Form::Signed => is_plain_number(field),
         Form::Copied => is_plain_word(field),
-        Form::Field { .. } => false,
+        Form::WithoutPlus | Form::Field { .. } => false,
     }
 }
 

@@ -60,7 +60,9 @@ fn word_source(kind: Kind) -> Option<Source>
 {
     match kind {
         Kind::Word => Some(Source::Text),
-        _ => None,
+        Kind::U8 | Kind::U16 | Kind::U32 | Kind::U64 | Kind::Usize => None,
+        Kind::I8 | Kind::I16 | Kind::I32 | Kind::I64 | Kind::Isize => None,
+        Kind::Char => None,
     }
 }
 
@@ -86,7 +88,10 @@ impl Source {
                 bits_source(kind)
             }
             ConversionType::String => word_source(kind),
-            _ => None,
+            ConversionType::SciFloatLower | ConversionType::SciFloatUpper => None,
+            ConversionType::DecFloatLower | ConversionType::DecFloatUpper => None,
+            ConversionType::CompactFloatLower | ConversionType::CompactFloatUpper => None,
+            ConversionType::Char | ConversionType::PercentSign => None,
         }
     }
 

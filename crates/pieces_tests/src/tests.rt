@@ -18,6 +18,9 @@ const ROWS: &str = "\
     printf\tu32\t%08u.\t%d\t00000412.\t412\n\
     printf\tu32\t%08x.\t%u\t0000beef.\t48879\n\
     printf\ti64\t%+d.\t%d\t+7.\t7\n\
+    printf\ti64\t%+d.\t%d\t-7.\t-7\n\
+    printf\ti8 i8\t%+d %+d\t%d%d\t+0 -128\t0-128\n\
+    printf\ti64\t%+d.\t% d\t+7.\t 7\n\
     printf\ti64\t%+d.\t%+d\t+7.\t+7\n\
     printf\ti64\t%d.\t<%d>\t-9223372036854775808.\t<-9223372036854775808>\n\
     printf\ti8\t%x\t%d\tfe\t-2\n\
@@ -61,6 +64,9 @@ const ROWS: &str = "\
     strfmt\tu8\t%d\t{0\t7\tnone\n\
     formatx\tu32 i64 word\t%08x %+d %s\t{2} {0} {1}\t0000002a -3 w1\tw1 42 -3\n\
     formatx\tu32 i64 word\t%08x %+d %s\t{} {} {}\t0000002a +3 w1\t42 3 w1\n\
+    formatx\tu16 u16 u32\t%05u%05u%08x\t{2} {1} {0}\t00007000120000beef\t48879 12 7\n\
+    formatx\ti32 i16\t%+d %+d\t{1}/{0}\t+12 -3\t-3/12\n\
+    strfmt\ti64 word\t%+d %s\t{1}{0}{0}\t+9 w\tw99\n\
     formatx\tu8 u8\t%d %d\t{1}{}{}{1}\t1 2\t2122\n\
     formatx\tu8\t%d\t{{{}}}\t7\t{7}\n\
     formatx\tu8\t%d\t{0:03}\t7\tnone\n\

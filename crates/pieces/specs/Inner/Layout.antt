@@ -1,5 +1,6 @@
 -- Literal texts and values in turn, and the text that they make over a row.
-use Rattle.std.specs.Prelude.{◌≡◌, ℕ, List, [], ◌∷◌, ◌++◌, false, slice_get, slice_range, Option, Some, None}
+use Rattle.std.specs.Prelude.{◌≡◌, ◌==◌, if◌then◌else◌, ℕ, List, [], ◌∷◌, ◌++◌, false, slice_get, slice_range, Option, Some, None}
+use Rattle.std.specs.Str.{byte}
 use Rattle.std.specs.Int.{w64, cast_signed}
 use Rattle.numerals.specs.Numeral.{numeral}
 use Rattle.formatx.specs.Values.{decimal_of}
@@ -9,7 +10,7 @@ use Rattle.tokens.specs.declared.Token.{Token}
 use Rattle.tokens.specs.Tokens.{AreTokens, IsToken}
 use Rattle.row_format.specs.Columns.{text_or_none}
 use Rattle.pieces.specs.declared.layout.Form.{Form}
-use Rattle.pieces.specs.declared.layout.Form.TheVariants.{Number, Signed, Copied, Field}
+use Rattle.pieces.specs.declared.layout.Form.TheVariants.{Number, Signed, Copied, WithoutPlus, Field}
 use Rattle.pieces.specs.Inner.Source.{source_meaning}
 
 -- How the values of a kind are printed; a character has no form.
@@ -27,11 +28,17 @@ form_of Of.Isize = Some Signed
 form_of Of.Word = Some Copied
 form_of Of.Char = None
 
+-- The text without the plus sign in front, if it has one.
+abbrev pub without_plus : List ℕ → List ℕ
+without_plus [] = []
+without_plus (c ∷ rest) = if c == byte "+" then rest else c ∷ rest
+
 -- The text of a token in a form.
 abbrev pub token_text : Form → List ℕ → Token → List ℕ
 token_text Number row token = numeral 10 false token.number
 token_text Signed row token = decimal_of (cast_signed w64 token.number)
 token_text Copied row token = slice_range row token.start token.end
+token_text WithoutPlus row token = without_plus (slice_range row token.start token.end)
 token_text (Field source f) row token = text_or_none ((source_meaning source row token).text f)
 
 -- The text of a token that may be missing.

@@ -1,5 +1,5 @@
 -- A printf format, element by element.
-use Rattle.std.specs.Prelude.{◌≡◌, ℕ, List, ◌∷◌, drop, false, ℤ, pos, slice_get, Some, Result, Ok}
+use Rattle.std.specs.Prelude.{◌≡◌, ℕ, List, ◌∷◌, drop, true, false, ℤ, pos, slice_get, Some, Result, Ok}
 use Rattle.sprintf.specs.declared.PrintfError.{PrintfError}
 use Rattle.sprintf.specs.declared.parser.ConversionSpecifier.{ConversionSpecifier}
 use Rattle.sprintf.specs.declared.parser.ConversionType.TheVariants.{DecInt, String}
@@ -12,7 +12,7 @@ use Rattle.values.specs.Datum.{each_of, printf_meaning}
 use Rattle.tokens.specs.declared.Token.{Token}
 use Rattle.tokens.specs.Tokens.{AreTokens, IsToken, data_of, datum_at}
 use Rattle.pieces.specs.declared.layout.Form.{Form}
-use Rattle.pieces.specs.declared.layout.Form.TheVariants.{Number, Signed, Copied, Field}
+use Rattle.pieces.specs.declared.layout.Form.TheVariants.{Number, Signed, Copied, WithoutPlus, Field}
 use Rattle.pieces.specs.Inner.Layout.{Parts, layout_text, token_text}
 
 -- The field prints numbers plainly.
@@ -22,6 +22,12 @@ pub record IsPlainNumber (f : ConversionSpecifier) : Type 0 where
   pub precision : (z : ℤ) × (f.precision ≡ Literal z)
   pub plus : f.force_sign ≡ false
   pub space : f.space_sign ≡ false
+
+-- The field prints numbers without a width, with a plus sign in front of those that are not negative.
+pub record IsPlusNumber (f : ConversionSpecifier) : Type 0 where
+  pub conversion : f.conversion_type ≡ DecInt
+  pub width : f.width ≡ Literal (pos 0)
+  pub plus : f.force_sign ≡ true
 
 -- The field prints words plainly.
 pub record IsPlainWord (f : ConversionSpecifier) : Type 0 where
@@ -34,6 +40,7 @@ abbrev pub IsPlain : Form → ConversionSpecifier → Type 0
 IsPlain Number f = IsPlainNumber f
 IsPlain Signed f = IsPlainNumber f
 IsPlain Copied f = IsPlainWord f
+IsPlain WithoutPlus f = ⊥
 IsPlain (Field source g) f = ⊥
 
 -- The width and the precision are numbers.

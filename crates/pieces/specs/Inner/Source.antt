@@ -3,7 +3,7 @@ use Rattle.std.specs.Prelude.{◌≡◌, ◌^◌, ℕ, ℤ, List, slice_range, O
 use Rattle.std.specs.Int.{Width, w8, w16, w32, w64, cast_signed, cast_unsigned}
 use mir.Val.{bits}
 use Rattle.sprintf.specs.declared.parser.ConversionType.{ConversionType}
-use Rattle.sprintf.specs.declared.parser.ConversionType.TheVariants.{DecInt, OctInt, HexIntLower, HexIntUpper, String}
+use Rattle.sprintf.specs.declared.parser.ConversionType.TheVariants.{DecInt, OctInt, HexIntLower, HexIntUpper, SciFloatLower, SciFloatUpper, DecFloatLower, DecFloatUpper, CompactFloatLower, CompactFloatUpper, Char, String, PercentSign}
 use Rattle.sprintf.specs.Meaning.{Meaning}
 use Rattle.sprintf.specs.Values.{unsigned_meaning, signed_meaning, word_meaning}
 use Rattle.values.specs.declared.kind.Kind.{Kind}
@@ -44,8 +44,18 @@ bits_source Of.Char = None
 
 -- What a field of text takes: a word.
 abbrev pub word_source : Kind → Option Source
+word_source Of.U8 = None
+word_source Of.U16 = None
+word_source Of.U32 = None
+word_source Of.U64 = None
+word_source Of.Usize = None
+word_source Of.I8 = None
+word_source Of.I16 = None
+word_source Of.I32 = None
+word_source Of.I64 = None
+word_source Of.Isize = None
 word_source Of.Word = Some Text
-word_source kind = None
+word_source Of.Char = None
 
 -- What a field of the conversion takes from a token of the kind, if it refuses no value of the kind.
 abbrev pub source_of : ConversionType → Kind → Option Source
@@ -54,7 +64,14 @@ source_of OctInt kind = bits_source kind
 source_of HexIntLower kind = bits_source kind
 source_of HexIntUpper kind = bits_source kind
 source_of String kind = word_source kind
-source_of conversion kind = None
+source_of SciFloatLower kind = None
+source_of SciFloatUpper kind = None
+source_of DecFloatLower kind = None
+source_of DecFloatUpper kind = None
+source_of CompactFloatLower kind = None
+source_of CompactFloatUpper kind = None
+source_of Char kind = None
+source_of PercentSign kind = None
 
 -- The value of a token, as the field sees it.
 abbrev pub source_meaning : Source → List ℕ → Token → Meaning
