@@ -1,5 +1,6 @@
 pub mod Ascii
 pub mod Escaped
 pub mod Lines
+pub mod Prefixes
 pub mod Texts
 pub mod Widths

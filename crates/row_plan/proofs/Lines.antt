@@ -1,21 +1,22 @@
 -- What the tokens of a line say of the lists of values whose row it is.
-use Rattle.std.proofs.Common.{◌≡◌, ◌≢◌, ◌≤◌, ◌<◌, ◌+◌, ℕ, List, [], ◌∷◌, ◌++◌, length, map, refl, ap, sym, subst, ◌∙◌, arith, length-append}
+use Rattle.std.proofs.Common.{◌≡◌, ◌≢◌, ◌≤◌, ◌<◌, ◌+◌, ℕ, List, [], ◌∷◌, ◌++◌, length, map, refl, ap, sym, subst, ◌∙◌, arith, length-append, Result, Ok, Err, IfOk, IfErr, OnOk}
 use Rattle.std.specs.Str.{chars}
 use Rattle.scan_fmt.specs.Scanned.{Token, ScannedTexts}
 use Rattle.scan_fmt.specs.Slices.{piece_text, ArePieces, ScannedPieces, Sliced, slices_left}
 use Rattle.scan_fmt.specs.declared.slices.Piece.{Piece}
 use Rattle.values.specs.declared.kind.Kind.{Kind}
 use Rattle.values.specs.declared.value.Value.{Value}
-use Rattle.values.specs.Datum.{Datum, kind_of, datum_of}
+use Rattle.values.specs.Datum.{Datum, datum_of}
 use Rattle.row_format.specs.Columns.{Column, columns_text, row_text, field_text, width_of}
 use Rattle.row_format.specs.Fit.{AreFit}
 use Rattle.row_format.specs.Laws.{IsText, ReadsBack, HasOneList, ReadsToOneList}
 use Rattle.row_format.specs.Plannable.{IsPlannable, IsUnpaired, Never}
 use Rattle.row_format.specs.Planned.{planned_text}
 use Rattle.row_format.specs.Row.{IsRow, EachReads}
+use Rattle.row_plan.specs.declared.row_value.RowValue.{RowValue}
 use Rattle.row_plan.specs.declared.error.RowError.{RowError}
 use Rattle.row_plan.specs.declared.error.RowError.TheVariants.{NotARow, NoMemory}
-use Rattle.row_plan.specs.Inner.Reading.{EachFits, NoneWider, ReadsNoList}
+use Rattle.row_plan.specs.Inner.Reading.{kind_in, datum_in, text_in, AreOwned, EachFits, NoneWider, ReadsNoList}
 use Rattle.row_plan.specs.Plan.{Planned, IsRead, RefusesRow}
 use Rattle.row_plan.proofs.Widths.{field_wide}
 
@@ -90,29 +91,46 @@ no_list plan line columns kinds tokens NotARow s back none = λ values row.
     none values (rw (s.columns_are, s.kinds_are) each)
 no_list plan line columns kinds tokens NoMemory s back none = tt
 
--- what was read and printed again
-pub record IsPrinted (plan : Planned) (columns : List Column) (kinds : List Kind) (tokens : List (List ℕ)) (values : List Value) (again : List ℕ) : Type 0 where
-  pub kinds_are : map kind_of values ≡ kinds
-  pub each : EachFits columns kinds tokens (map datum_of values)
-  pub text : again ≡ row_text plan.format (map kind_of values) (map datum_of values)
+-- what was read: a value for each token
+pub record AreValues (columns : List Column) (kinds : List Kind) (tokens : List (List ℕ)) (values : List RowValue) : Type 0 where
+  pub kinds_are : map kind_in values ≡ kinds
+  pub each : EachFits columns kinds tokens (map datum_in values)
 
-read_text : (plan : Planned) (line again : List ℕ) (columns : List Column) (kinds : List Kind) (tokens : List (List ℕ)) (values : List Value) → IsScanned plan line columns kinds tokens → IsPrinted plan columns kinds tokens values again → again ≡ row_text plan.format plan.kinds (map datum_of values)
-read_text plan line again columns kinds tokens values s p = p.text ∙ ap (λ (k : List Kind). row_text plan.format k (map datum_of values)) (p.kinds_are ∙ s.kinds_are)
+read_text : (plan : Planned) (line : List ℕ) (columns : List Column) (kinds : List Kind) (tokens : List (List ℕ)) (values : List RowValue) → IsScanned plan line columns kinds tokens → AreValues columns kinds tokens values → text_in plan.format values ≡ row_text plan.format plan.kinds (map datum_in values)
+read_text plan line columns kinds tokens values s p = ap (λ (k : List Kind). row_text plan.format k (map datum_in values)) (p.kinds_are ∙ s.kinds_are)
 
-read_fits : (plan : Planned) (line again : List ℕ) (columns : List Column) (kinds : List Kind) (tokens : List (List ℕ)) (values : List Value) → IsScanned plan line columns kinds tokens → IsPrinted plan columns kinds tokens values again → EachFits plan.format.columns plan.kinds tokens (map datum_of values)
-read_fits plan line again columns kinds tokens values s p = rw (← s.columns_are, ← s.kinds_are) p.each
+read_fits : (plan : Planned) (line : List ℕ) (columns : List Column) (kinds : List Kind) (tokens : List (List ℕ)) (values : List RowValue) → IsScanned plan line columns kinds tokens → AreValues columns kinds tokens values → EachFits plan.format.columns plan.kinds tokens (map datum_in values)
+read_fits plan line columns kinds tokens values s p = rw (← s.columns_are, ← s.kinds_are) p.each
 
 -- where the values that the tokens read to print another text, the line is no row
-pub other_text : (plan : Planned) (line again : List ℕ) (columns : List Column) (kinds : List Kind) (tokens : List (List ℕ)) (values : List Value) → IsScanned plan line columns kinds tokens → IsPrinted plan columns kinds tokens values again
-    → ReadsBack → ReadsToOneList → again ≢ line → (others : List Datum) → ¬ IsRow plan.format plan.kinds line others
-other_text plan line again columns kinds tokens values s p back once other others row =
-    let read = map datum_of values in
-    let same : others ≡ read = once plan.format.columns plan.kinds tokens others read (row_tokens plan line tokens others back s.text s.can s.scan row) (each_reads plan.format.columns plan.kinds tokens read (read_fits plan line again columns kinds tokens values s p)) in
-    other (read_text plan line again columns kinds tokens values s p ∙ ap (row_text plan.format plan.kinds) (sym same) ∙ sym row.text)
+other_text : (plan : Planned) (line : List ℕ) (columns : List Column) (kinds : List Kind) (tokens : List (List ℕ)) (values : List RowValue) → IsScanned plan line columns kinds tokens → AreValues columns kinds tokens values
+    → ReadsBack → ReadsToOneList → line ≢ text_in plan.format values → (others : List Datum) → ¬ IsRow plan.format plan.kinds line others
+other_text plan line columns kinds tokens values s p back once other others row =
+    let read = map datum_in values in
+    let same : others ≡ read = once plan.format.columns plan.kinds tokens others read (row_tokens plan line tokens others back s.text s.can s.scan row) (each_reads plan.format.columns plan.kinds tokens read (read_fits plan line columns kinds tokens values s p)) in
+    other (row.text ∙ ap (row_text plan.format plan.kinds) same ∙ sym (read_text plan line columns kinds tokens values s p))
 
-pub is_read : (plan : Planned) (line again : List ℕ) (columns : List Column) (kinds : List Kind) (tokens : List (List ℕ)) (values : List Value) → IsScanned plan line columns kinds tokens → IsPrinted plan columns kinds tokens values again
-    → HasOneList → again ≡ line → IsRead plan line values
-is_read plan line again columns kinds tokens values s p one same =
-    let read = map datum_of values in
-    let row : IsRow plan.format plan.kinds line read = record { fit = are_fit plan.format.columns plan.kinds tokens read (read_fits plan line again columns kinds tokens values s p); text = sym same ∙ read_text plan line again columns kinds tokens values s p } in
-    record { kinds = p.kinds_are ∙ s.kinds_are; row = row; only = λ others so. one plan.format plan.kinds line others read s.text s.can so row }
+-- where there was memory, so is what is answered then
+refuses : (plan : Planned) (line : List ℕ) (columns : List Column) (kinds : List Kind) (tokens : List (List ℕ)) (values : List RowValue) (why : RowError) → IsScanned plan line columns kinds tokens → AreValues columns kinds tokens values
+    → ReadsBack → ReadsToOneList → (why ≡ NotARow → line ≢ text_in plan.format values) → RefusesRow plan line why
+refuses plan line columns kinds tokens values NotARow s p back once other = other_text plan line columns kinds tokens values s p back once (other refl)
+refuses plan line columns kinds tokens values NoMemory s p back once other = tt
+
+is_read : (plan : Planned) (line : List ℕ) (columns : List Column) (kinds : List Kind) (tokens : List (List ℕ)) (values : List RowValue) (owned : List Value) → IsScanned plan line columns kinds tokens → AreValues columns kinds tokens values → AreOwned values owned
+    → HasOneList → line ≡ text_in plan.format values → IsRead plan line owned
+is_read plan line columns kinds tokens values owned s p o one same =
+    let read = map datum_in values in
+    let row : IsRow plan.format plan.kinds line read = record { fit = are_fit plan.format.columns plan.kinds tokens read (read_fits plan line columns kinds tokens values s p); text = same ∙ read_text plan line columns kinds tokens values s p } in
+    let mine : IsRow plan.format plan.kinds line (map datum_of owned) = subst (IsRow plan.format plan.kinds line) (sym o.data_are) row in
+    record { kinds = o.kinds_are ∙ p.kinds_are ∙ s.kinds_are; row = mine; only = λ others so. one plan.format plan.kinds line others (map datum_of owned) s.text s.can so mine }
+
+-- what is answered, by the text of the values
+pub answers_row : {A : Type 0} (items : A → List Value) (r : Result A RowError) (plan : Planned) (line : List ℕ) (columns : List Column) (kinds : List Kind) (tokens : List (List ℕ)) (values : List RowValue) → IsScanned plan line columns kinds tokens → AreValues columns kinds tokens values → HasOneList
+    → IfOk r (λ owned. AreOwned values (items owned)) → OnOk r (line ≡ text_in plan.format values) → IfOk r (λ owned. IsRead plan line (items owned))
+answers_row items (Ok owned) plan line columns kinds tokens values s p one o same = is_read plan line columns kinds tokens values (items owned) s p o one same
+answers_row items (Err why) plan line columns kinds tokens values s p one o same = tt
+
+pub answers_none : {A : Type 0} (r : Result A RowError) (plan : Planned) (line : List ℕ) (columns : List Column) (kinds : List Kind) (tokens : List (List ℕ)) (values : List RowValue) → IsScanned plan line columns kinds tokens → AreValues columns kinds tokens values → ReadsBack → ReadsToOneList
+    → IfErr r (λ why. why ≡ NotARow → line ≢ text_in plan.format values) → IfErr r (RefusesRow plan line)
+answers_none (Ok owned) plan line columns kinds tokens values s p back once other = tt
+answers_none (Err why) plan line columns kinds tokens values s p back once other = refuses plan line columns kinds tokens values why s p back once other

@@ -5,6 +5,7 @@ mod characters;
 mod error;
 mod printing;
 mod reading;
+mod row_value;
 mod rows;
 mod text;
 mod token;

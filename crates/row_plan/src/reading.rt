@@ -2,20 +2,20 @@
 ghost use Rattle.std.specs.Prelude.{◌≡◌, ◌++◌, ◌∷◌, [], map, IfOk, IfErr, OnOk};
 ghost use Rattle.std.specs.Str.{chars};
 ghost use Rattle.scan_fmt.specs.Slices.{slices_left};
-ghost use Rattle.values.specs.Datum.{kind_of, datum_of};
-ghost use Rattle.row_plan.specs.Inner.Reading.{EachFits, ReadsNoList};
+ghost use Rattle.row_plan.specs.Inner.Reading.{kind_in, datum_in, EachFits, ReadsNoList};
 
 use crate::RowError;
+use crate::row_value::RowValue;
 use crate::token::read_token;
 use numerals::NoMemory;
 use row_format::RowField;
 use scan_fmt::parse::Slices;
 use std::alloc::Global;
-use values::{Kind, Value};
+use values::Kind;
 
 /// One value more.
-fn push(values: &mut Vec<Value>, value: Value) -> Result<(), NoMemory>
-    ensures { OnOk result (values.new.items ≡ values.old.items ++ value ∷ []) }
+fn push<'r>(values: &mut Vec<RowValue<'r>>, value: RowValue<'r>) -> Result<(), NoMemory>
+    ensures { OnOk result (values.new.items ≡ values.old.items ++ value.entry ∷ []) }
 {
     if values.push(value).is_err() {
         return Err(NoMemory);
@@ -25,14 +25,14 @@ fn push(values: &mut Vec<Value>, value: Value) -> Result<(), NoMemory>
 
 /// The values that the tokens read to, one for each field. The tokens that are left are as many as the fields, or it is
 /// refused.
-pub fn read_tokens(
+pub fn read_tokens<'r>(
     alloc: Global,
-    tokens: &mut Slices<'_>,
+    tokens: &mut Slices<'r>,
     fields: &[RowField],
     kinds: &[Kind],
-) -> Result<Vec<Value>, RowError>
-    ensures kinds { IfOk result (λ values. map kind_of values.items ≡ kinds.now) }
-    ensures values { IfOk result (λ values. EachFits fields.now kinds.now (map chars (slices_left tokens.old)) (map datum_of values.items)) }
+) -> Result<Vec<RowValue<'r>>, RowError>
+    ensures kinds { IfOk result (λ values. map kind_in values.items ≡ kinds.now) }
+    ensures values { IfOk result (λ values. EachFits fields.now kinds.now (map chars (slices_left tokens.old)) (map datum_in values.items)) }
     ensures refused { IfErr result (ReadsNoList fields.now kinds.now (map chars (slices_left tokens.old))) }
 {
     let mut values = Vec::new(alloc);
@@ -45,7 +45,9 @@ pub fn read_tokens(
         let Some(token) = Iterator::next(tokens) else {
             return Err(RowError::NotARow);
         };
-        let value = read_token(alloc, field, *kind, token)?;
+        let Some(value) = read_token(field, *kind, token) else {
+            return Err(RowError::NotARow);
+        };
         push(&mut values, value)?;
         fields = later_fields;
         kinds = later_kinds;

@@ -1,14 +1,15 @@
 // A plan, and the rows that it reads.
-ghost use Rattle.std.specs.Prelude.{◌≡◌, ◌↔◌, length, IsTrue, IfOk, IfErr, OnOk};
+ghost use Rattle.std.specs.Prelude.{◌≡◌, ◌≢◌, length, IsTrue, IfOk, IfErr, OnOk};
 ghost use Rattle.std.specs.Str.{chars};
 ghost use Rattle.row_format.specs.Columns.{columns_of};
 ghost use Rattle.row_format.specs.Plannable.{IsPlannable};
 ghost use Rattle.row_format.specs.Planned.{planned_text};
 ghost use Rattle.row_plan.specs.Plan.{RefusesPlan, IsRead, RefusesRow};
-ghost use Rattle.row_plan.specs.Inner.Reading.{NoneWider};
+ghost use Rattle.row_plan.specs.Inner.Reading.{AreOwned, NoneWider, text_in};
 
-use crate::printing::print_row;
+use crate::printing::is_row_of;
 use crate::reading::read_tokens;
+use crate::row_value::{RowValue, into_values};
 use crate::text::planned_text;
 use crate::{PlanError, RowError};
 use numerals::NoMemory;
@@ -20,6 +21,9 @@ use sprintf::parser::FormatElement;
 use std::alloc::Global;
 use std::marker::Model;
 use values::{Kind, Value};
+
+/// How much room for the text of a field is kept from row to row, in bytes.
+const KEPT_ROOM: usize = 4096;
 
 /// How the rows of a printf format are read back. It owns copies of the format's texts, fields and kinds.
 #[derive(Drop)]
@@ -62,10 +66,30 @@ fn is_too_short(fields: &[RowField], line: &str) -> bool
     false
 }
 
-fn is_same(text: &str, line: &str) -> bool
-    ensures { IsTrue result ↔ (text.now ≡ line.now) }
+/// Gives back what one long field left of room.
+fn release(text: &mut String) {
+    text.clear();
+    text.shrink_to(KEPT_ROOM);
+}
+
+/// The values with words of their own, where the line is the row of them; `text` is room for the text of one field.
+fn own_values(
+    alloc: Global,
+    line: &str,
+    format: &RowFormat,
+    values: Vec<RowValue<'_>>,
+    text: &mut String,
+) -> Result<Vec<Value>, RowError>
+    ensures owned { IfOk result (λ owned. AreOwned values.entry.items owned.items) }
+    ensures row { OnOk result (line.now ≡ text_in format.now values.entry.items) }
+    ensures refused { IfErr result (λ why. why ≡ RowError.NotARow → line.now ≢ text_in format.now values.entry.items) }
 {
-    text == line
+    let is_row = is_row_of(alloc, line, format, &values, text)?;
+    release(text);
+    if !is_row {
+        return Err(RowError::NotARow);
+    }
+    Ok(into_values(alloc, values)?)
 }
 
 /// Plans the rows of a format, with one kind for each of its fields. It is refused exactly where the format can't be read back.
@@ -105,23 +129,23 @@ impl RowPlan {
         ensures ok { IfOk result (λ values. IsRead self.now line.now values.items) }
         ensures refused { IfErr result (RefusesRow self.now line.now) }
     {
-        let mut again = String::new(alloc);
-        self.read_row_with(alloc, line, &mut again)
+        let mut text = String::new(alloc);
+        self.read_row_with(alloc, line, &mut text)
     }
 
-    /// The same, with a text that is used to print the row again, and whose room is kept. What it holds afterwards isn't
-    /// fixed.
+    /// The same, with a text in which the fields are printed again, one by one, and of whose room some is kept. What it holds
+    /// afterwards isn't fixed.
     pub fn read_row_with(
         &self,
         alloc: Global,
         line: &str,
-        again: &mut String,
+        text: &mut String,
     ) -> Result<Vec<Value>, RowError>
         ensures ok { IfOk result (λ values. IsRead self.now line.now values.items) }
         ensures refused { IfErr result (RefusesRow self.now line.now) }
     {
         let format = Format::new(alloc, self.format_text())?;
-        self.read_row_by(alloc, &format, line, again)
+        self.read_row_by(alloc, &format, line, text)
     }
 
     /// The same, with the scanning format, which was cut before.
@@ -130,7 +154,7 @@ impl RowPlan {
         alloc: Global,
         format: &Format<'_>,
         line: &str,
-        again: &mut String,
+        text: &mut String,
     ) -> Result<Vec<Value>, RowError>
         requires format { format.now ≡ chars (planned_text self.now.format self.now.kinds) }
         ensures ok { IfOk result (λ values. IsRead self.now line.now values.items) }
@@ -145,10 +169,6 @@ impl RowPlan {
         }
         let mut tokens = format.scan_slices(alloc, line)?;
         let values = read_tokens(alloc, &mut tokens, fields, &self.kinds)?;
-        print_row(alloc, again, &self.format, &values)?;
-        if !is_same(again.as_str(), line) {
-            return Err(RowError::NotARow);
-        }
-        Ok(values)
+        own_values(alloc, line, &self.format, values, text)
     }
 }

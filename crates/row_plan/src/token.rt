@@ -1,5 +1,5 @@
 // One token, read to a value of its field's kind.
-ghost use Rattle.std.specs.Prelude.{◌≡◌, ◌↔◌, IsTrue, IfOk};
+ghost use Rattle.std.specs.Prelude.{◌≡◌, ◌↔◌, IsTrue};
 ghost use Rattle.std.specs.List.{AllByRecursion};
 ghost use Rattle.std.specs.Str.{chars};
 ghost use Rattle.numerals.specs.Numeral.{base_of};
@@ -8,16 +8,15 @@ ghost use Rattle.scan_fmt.specs.Scanned.{Suits};
 ghost use Rattle.values.specs.Datum.{word};
 ghost use Rattle.row_format.specs.Fit.{MayStandBefore};
 ghost use Rattle.row_format.specs.Row.{ReadsDecimal, StandsFor, IsTextOf};
-ghost use Rattle.row_plan.specs.Inner.Reading.{Finds, Answers, AreBits, ReadsNumber, ReadsFit};
+ghost use Rattle.row_plan.specs.Inner.Reading.{Finds, FindsInRow, AreBits, ReadsNumber, ReadsFit};
 
-use crate::RowError;
 use crate::characters::{first, split_first};
+use crate::row_value::RowValue;
 use numerals::{Radix, read_digits};
 use row_format::RowField;
 use scan_fmt::parse::ReadSlice;
 use sprintf::parser::ConversionType;
-use std::alloc::Global;
-use values::{Kind, Value, Word};
+use values::{Kind, Value};
 
 /// The longest word that fits: the default precision of printing cuts no shorter one.
 const LONGEST_WORD: usize = 2147483647;
@@ -113,54 +112,44 @@ fn is_word(stop: Option<char>, text: &str) -> bool
 }
 
 /// The token as a word, where it fits.
-fn word(alloc: Global, stop: Option<char>, token: &str) -> Result<Value, RowError>
-    ensures { Answers (λ value. IsTextOf (chars token.now) value × MayStandBefore stop value) Kind.Word result }
+fn word(stop: Option<char>, token: &str) -> Option<RowValue<'_>>
+    ensures { FindsInRow (λ value. IsTextOf (chars token.now) value × MayStandBefore stop value) Kind.Word result }
 {
     if !is_word(stop, token) {
-        return Err(RowError::NotARow);
+        return None;
     }
-    match Word::new(alloc, token) {
-        Ok(word) => Ok(Value::Word(word)),
-        Err(_) => Err(RowError::NoMemory),
-    }
+    Some(RowValue::Word(token))
 }
 
 /// The token as one character, where it fits.
-fn character(stop: Option<char>, token: &str) -> Result<Value, RowError>
-    ensures { Answers (λ value. IsTextOf (chars token.now) value × MayStandBefore stop value) Kind.Char result }
+fn character(stop: Option<char>, token: &str) -> Option<Value>
+    ensures { Finds (λ value. IsTextOf (chars token.now) value × MayStandBefore stop value) Kind.Char result }
 {
-    let Some(character) = char::read_slice(token) else {
-        return Err(RowError::NotARow);
-    };
+    let character = char::read_slice(token)?;
     if !suits(stop, character) {
-        return Err(RowError::NotARow);
+        return None;
     }
-    Ok(Value::Char(character))
+    Some(Value::Char(character))
 }
 
 /// The token as a word or a character, by the kind.
-fn text(alloc: Global, kind: Kind, stop: Option<char>, token: &str) -> Result<Value, RowError>
-    ensures { Answers (λ value. IsTextOf (chars token.now) value × MayStandBefore stop value) kind result }
+fn text(kind: Kind, stop: Option<char>, token: &str) -> Option<RowValue<'_>>
+    ensures { FindsInRow (λ value. IsTextOf (chars token.now) value × MayStandBefore stop value) kind result }
 {
     match kind {
-        Kind::Word => word(alloc, stop, token),
-        Kind::Char => character(stop, token),
-        _ => Err(RowError::NotARow),
+        Kind::Word => word(stop, token),
+        Kind::Char => Some(RowValue::Other(character(stop, token)?)),
+        _ => None,
     }
 }
 
 /// The value of the kind that the token of a field reads to, if it fits.
-pub fn read_token(
-    alloc: Global,
-    field: &RowField,
-    kind: Kind,
-    token: &str,
-) -> Result<Value, RowError>
-    ensures { Answers (ReadsFit field.now kind (chars token.now)) kind result }
+pub fn read_token<'r>(field: &RowField, kind: Kind, token: &'r str) -> Option<RowValue<'r>>
+    ensures { FindsInRow (ReadsFit field.now kind (chars token.now)) kind result }
 {
     match field.field().conversion_type {
-        ConversionType::String => text(alloc, kind, first(field.after()), token),
-        ConversionType::Char => text(alloc, kind, first(field.after()), token),
-        conversion => number(conversion, kind, token).ok_or(RowError::NotARow),
+        ConversionType::String => text(kind, first(field.after()), token),
+        ConversionType::Char => text(kind, first(field.after()), token),
+        conversion => Some(RowValue::Other(number(conversion, kind, token)?)),
     }
 }

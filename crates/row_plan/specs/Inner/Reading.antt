@@ -1,15 +1,19 @@
 -- Tokens and the values that they read to, one by one.
-use Rattle.std.specs.Prelude.{◌≡◌, ◌≤◌, ℕ, List, [], ◌∷◌, Option, None, Some, Result, Ok, Err, ⊤}
+use denote.Bor.{Bor}
+use Rattle.std.specs.Prelude.{◌≡◌, ◌≢◌, ◌↔◌, ◌≤◌, ◌++◌, ℕ, List, [], ◌∷◌, map, Option, None, Some, ⊤}
 use Rattle.std.specs.Int.{w8, w16, w32, w64, cast_unsigned}
 use Rattle.sprintf.specs.declared.parser.ConversionType.{ConversionType}
 use Rattle.sprintf.specs.declared.parser.ConversionType.TheVariants.{DecInt, OctInt, HexIntLower, HexIntUpper}
 use Rattle.values.specs.declared.kind.Kind.{Kind}
+use Rattle.values.specs.declared.kind.Kind.TheVariants.{Word}
 use Rattle.values.specs.declared.value.Value.{Value}
-use Rattle.values.specs.Datum.{Datum, natural, integer, IsOfKind, kind_of, datum_of}
-use Rattle.row_format.specs.Columns.{Column, width_of}
+use Rattle.values.specs.Datum.{Datum, natural, integer, word, IsOfKind, kind_of, datum_of}
+use Rattle.row_format.specs.Columns.{Column, Columns, row_text, width_of}
 use Rattle.row_format.specs.Fit.{stop, MayStandBefore}
 use Rattle.row_format.specs.Plannable.{by_bits}
 use Rattle.row_format.specs.Row.{Reads, ReadsDecimal, StandsFor}
+use Rattle.row_plan.specs.declared.row_value.RowValue.{RowValue}
+use Rattle.row_plan.specs.declared.row_value.RowValue.TheVariants.{Word as WordOf, Other}
 use Rattle.row_plan.specs.declared.error.RowError.{RowError}
 use Rattle.row_plan.specs.declared.error.RowError.TheVariants.{NotARow, NoMemory}
 
@@ -26,11 +30,34 @@ abbrev pub Finds : (Datum → Type 0) → Kind → Option Value → Type 0
 Finds P kind (Some v) = IsOne P kind v
 Finds P kind None = NoneIs P kind
 
--- The same, or there was no memory.
-abbrev pub Answers : (Datum → Type 0) → Kind → Result Value RowError → Type 0
-Answers P kind (Ok v) = IsOne P kind v
-Answers P kind (Err NotARow) = NoneIs P kind
-Answers P kind (Err NoMemory) = ⊤
+-- The kind of a value of a row.
+abbrev pub kind_in : RowValue → Kind
+kind_in (WordOf text) = Word
+kind_in (Other value) = kind_of value
+
+-- What a value of a row holds.
+abbrev pub datum_in : RowValue → Datum
+datum_in (WordOf text) = word text.now
+datum_in (Other value) = datum_of value
+
+-- The text of a format over values of a row.
+abbrev pub text_in : Columns → List RowValue → List ℕ
+text_in format values = row_text format (map kind_in values) (map datum_in values)
+
+-- The same values, with words of their own.
+pub record AreOwned (values : List RowValue) (owned : List Value) : Type 0 where
+  pub kinds_are : map kind_of owned ≡ map kind_in values
+  pub data_are : map datum_of owned ≡ map datum_in values
+
+-- The line goes on with more behind a field's text and the literal text behind it, exactly where this is what is left of it; None where they aren't its front.
+abbrev pub Continues : List ℕ → List ℕ → List ℕ → Option (Bor (List ℕ)) → Type 0
+Continues line field after (Some rest) = (more : List ℕ) → (line ≡ field ++ (after ++ more)) ↔ (rest.now ≡ more)
+Continues line field after None = (more : List ℕ) → line ≢ field ++ (after ++ more)
+
+-- A value of a row, of the kind, that has the property, or there is none of the kind.
+abbrev pub FindsInRow : (Datum → Type 0) → Kind → Option RowValue → Type 0
+FindsInRow P kind (Some v) = (kind_in v ≡ kind) × IsOfKind kind (datum_in v) × P (datum_in v)
+FindsInRow P kind None = NoneIs P kind
 
 -- These are the bits of the number, as a number without a sign.
 abbrev pub AreBits : Kind → ℕ → Datum → Type 0

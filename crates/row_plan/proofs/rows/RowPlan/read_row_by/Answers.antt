@@ -1,9 +1,9 @@
-use Rattle.std.proofs.Common.{◌≡◌, map, IsTrue, rules}
+use Rattle.std.proofs.Common.{◌≡◌, map}
 use Rattle.std.specs.Str.{chars}
 use Rattle.std.proofs.lemmas.Result.{err_from_is_err_and}
 use Rattle.scan_fmt.specs.Slices.{slices_left}
 use Rattle.row_plan.specs.Plan.{Planned}
-use Rattle.row_plan.proofs.Lines.{scanned, too_short, IsScanned, IsPrinted, no_list, other_text, is_read}
+use Rattle.row_plan.proofs.Lines.{scanned, too_short, IsScanned, AreValues, no_list, answers_row, answers_none}
 use Rattle.row_plan.proofs.rows.RowPlan.read_row_by.Goals as goal
 
 pub returns-then-is_too_short-clause-refused : goal.returns-then-is_too_short-clause-refused
@@ -27,22 +27,6 @@ returns-in_err-values-clause-refused c =
     let p = err_from_is_err_and c.from_residual-in_err-values.result c.from_residual-in_err-values.ensures.1 in
     rw (p.1, p.2) refused
 
-pub returns-then-not-is_same-clause-refused : goal.returns-then-not-is_same-clause-refused
-returns-then-not-is_same-clause-refused c =
-    let s : IsScanned c.args.self.now c.args.line.now c.fields-fields.result.now c.deref.result.now (map chars (slices_left c.in_ok-tokens.tokens)) = record {
-      text = rw (← c.self.view_is) c.self.invariant.0;
-      can = rw (← c.self.view_is) c.self.invariant.1;
-      columns_are = rw (← c.self.view_is) c.fields-fields.ensures;
-      kinds_are = rw (← c.self.view_is) c.deref.ensures.value;
-      scan = rw (← c.requires.format) (scanned c.args.line.now c.args.format.now c.in_ok-tokens.tokens c.in_ok-tokens.ensures.input c.in_ok-tokens.ensures.pieces c.in_ok-tokens.ensures.place);
-    } in
-    let p : IsPrinted c.args.self.now c.fields-fields.result.now c.deref.result.now (map chars (slices_left c.in_ok-tokens.tokens)) c.in_ok-values.values.items c.as_str.result.now = record {
-      kinds_are = rw c.in_ok-values.was at c.read_tokens.ensures.kinds;
-      each = rw c.in_ok-values.was at c.read_tokens.ensures.values;
-      text = rw (c.as_str.ensures.value, ← c.self.view_is) (rw c.deref-2.ensures.value at (rw c.in_ok-print_row.was at c.print_row.ensures));
-    } in
-    other_text c.args.self.now c.args.line.now c.as_str.result.now c.fields-fields.result.now c.deref.result.now (map chars (slices_left c.in_ok-tokens.tokens)) c.in_ok-values.values.items s p c.reads_back.ensures c.reads_to_one_list.ensures (λ e. cc (c.is_same.ensures.1 e))
-
 pub returns-clause-ok : goal.returns-clause-ok
 returns-clause-ok c =
     let s : IsScanned c.args.self.now c.args.line.now c.fields-fields.result.now c.deref.result.now (map chars (slices_left c.in_ok-tokens.tokens)) = record {
@@ -52,10 +36,23 @@ returns-clause-ok c =
       kinds_are = rw (← c.self.view_is) c.deref.ensures.value;
       scan = rw (← c.requires.format) (scanned c.args.line.now c.args.format.now c.in_ok-tokens.tokens c.in_ok-tokens.ensures.input c.in_ok-tokens.ensures.pieces c.in_ok-tokens.ensures.place);
     } in
-    let p : IsPrinted c.args.self.now c.fields-fields.result.now c.deref.result.now (map chars (slices_left c.in_ok-tokens.tokens)) c.in_ok-values.values.items c.as_str.result.now = record {
+    let p : AreValues c.fields-fields.result.now c.deref.result.now (map chars (slices_left c.in_ok-tokens.tokens)) c.in_ok-values.values.items = record {
       kinds_are = rw c.in_ok-values.was at c.read_tokens.ensures.kinds;
       each = rw c.in_ok-values.was at c.read_tokens.ensures.values;
-      text = rw (c.as_str.ensures.value, ← c.self.view_is) (rw c.deref-2.ensures.value at (rw c.in_ok-print_row.was at c.print_row.ensures));
     } in
-    let yes : IsTrue c.is_same.result = search rules in
-    is_read c.args.self.now c.args.line.now c.as_str.result.now c.fields-fields.result.now c.deref.result.now (map chars (slices_left c.in_ok-tokens.tokens)) c.in_ok-values.values.items s p c.has_one_list.ensures (c.is_same.ensures.0 yes)
+    answers_row (λ owned. owned.items) c.own_values.result c.args.self.now c.args.line.now c.fields-fields.result.now c.deref.result.now (map chars (slices_left c.in_ok-tokens.tokens)) c.in_ok-values.values.items s p c.has_one_list.ensures c.own_values.ensures.owned (rw (← c.self.view_is) c.own_values.ensures.row)
+
+pub returns-clause-refused : goal.returns-clause-refused
+returns-clause-refused c =
+    let s : IsScanned c.args.self.now c.args.line.now c.fields-fields.result.now c.deref.result.now (map chars (slices_left c.in_ok-tokens.tokens)) = record {
+      text = rw (← c.self.view_is) c.self.invariant.0;
+      can = rw (← c.self.view_is) c.self.invariant.1;
+      columns_are = rw (← c.self.view_is) c.fields-fields.ensures;
+      kinds_are = rw (← c.self.view_is) c.deref.ensures.value;
+      scan = rw (← c.requires.format) (scanned c.args.line.now c.args.format.now c.in_ok-tokens.tokens c.in_ok-tokens.ensures.input c.in_ok-tokens.ensures.pieces c.in_ok-tokens.ensures.place);
+    } in
+    let p : AreValues c.fields-fields.result.now c.deref.result.now (map chars (slices_left c.in_ok-tokens.tokens)) c.in_ok-values.values.items = record {
+      kinds_are = rw c.in_ok-values.was at c.read_tokens.ensures.kinds;
+      each = rw c.in_ok-values.was at c.read_tokens.ensures.values;
+    } in
+    answers_none c.own_values.result c.args.self.now c.args.line.now c.fields-fields.result.now c.deref.result.now (map chars (slices_left c.in_ok-tokens.tokens)) c.in_ok-values.values.items s p c.reads_back.ensures c.reads_to_one_list.ensures (rw (← c.self.view_is) c.own_values.ensures.refused)
