@@ -13,9 +13,7 @@ use values::Kind;
 pub fn push(out: &mut String, text: &str) -> Result<(), NoMemory>
     ensures { OnOk result (string_bytes out.new ≡ string_bytes out.old ++ text.now) }
 {
-    if out.push_str(text).is_err() {
-        return Err(NoMemory);
-    }
+    out.push_str(text)?;
     Ok(())
 }
 
@@ -29,9 +27,7 @@ fn push_character(out: &mut String, character: char) -> Result<(), NoMemory>
     if character == '}' {
         return push(out, "}}");
     }
-    if out.push(character).is_err() {
-        return Err(NoMemory);
-    }
+    out.push(character)?;
     Ok(())
 }
 
