@@ -1,5 +1,6 @@
 -- What plain placeholders of formatx print.
 use Rattle.std.proofs.Common.{◌≡◌, ℕ, suc, ◌+◌, Bool, true, false, if◌then◌else◌, List, [], ◌∷◌, ◌++◌, drop, codes, slice_get, Option, Some, None, IfSome, Result, Ok, refl, sym, ap, subst, ◌∙◌, arith, append-nil, append_assoc}
+use Rattle.std.specs.Prelude.{option_and_then}
 use Rattle.std.proofs.lemmas.Bool.Decides.{nat_tests}
 use Rattle.formatx.specs.Arguments.{value_at, argument_takes}
 use Rattle.formatx.specs.Fault.{Fault}
@@ -12,6 +13,7 @@ use Rattle.formatx.specs.Words.{begins}
 use Rattle.formatx.specs.declared.ast.Argument.{Argument}
 use Rattle.formatx.specs.declared.ast.Argument.TheVariants.{Implicit, Positional, Named}
 use Rattle.formatx.specs.declared.ast.FormatSpec.{FormatSpec}
+use Rattle.formatx.specs.declared.ast.FormatType.{FormatType}
 use Rattle.formatx.specs.declared.ast.Placeholder.{Placeholder}
 use Rattle.formatx.specs.declared.ast.Segment.{Segment}
 use Rattle.formatx.specs.declared.ast.Segment.TheVariants.{Literal, EscapedOpen, EscapedClose, Placeholder as Placed}
@@ -62,16 +64,7 @@ shaped_bare shape text =
 
 -- a plain specification is the one without options
 plain_is : (spec : FormatSpec) → IsPlain spec → spec ≡ no_options
-plain_is spec p = λ i. record {
-  fill = p.bare.fill i;
-  align = p.bare.align i;
-  sign = p.bare.sign i;
-  alternate = p.bare.alternate i;
-  zero_pad = p.bare.zero_pad i;
-  width = p.bare.width i;
-  precision = p.bare.precision i;
-  format_type = p.display i;
-}
+plain_is spec p = p.bare ∙ ap (λ (t : FormatType). record no_options { format_type = t }) p.display
 
 present_bare : (s : Scene) (argument : Argument) (span : Span) (m : Meaning) → present_text s (record { argument = argument; spec = no_options; span = span }) None m ≡ Ok m.display
 present_bare s argument span m = ap (λ (t : List ℕ). Ok t) (shaped_bare m.display_shape m.display)
@@ -111,70 +104,69 @@ continued-continued : (a b : List ℕ) (o : Outcome) → continued (Ok a) (conti
 continued-continued a b o = ap (λ (t : List ℕ). record { text = t; fault = o.fault }) (sym (append_assoc a b o.text))
 
 -- a segment that prints a text, and by which the layout grows
-segment_moves : (template : List ℕ) (kinds : List Kind) (old new : Parts) (s : Segment) (rest : List Segment) (next after : ℕ) (row : List ℕ) (tokens : List Token) (text : List ℕ)
-    → segment_text (scene template kinds row tokens) next s ≡ Ok text → next + segment_takes s ≡ after → layout_text new row tokens ≡ layout_text old row tokens ++ text
-    → rendered_behind template old (s ∷ rest) next kinds row tokens ≡ rendered_behind template new rest after kinds row tokens
-segment_moves template kinds old new s rest next after row tokens text e at grown =
-    let own : Scene = scene template kinds row tokens in
+segment_moves : (template : List ℕ) (names : List (List ℕ)) (kinds : List Kind) (old new : Parts) (s : Segment) (rest : List Segment) (next after : ℕ) (row : List ℕ) (tokens : List Token) (text : List ℕ)
+    → segment_text (scene template names kinds row tokens) next s ≡ Ok text → next + segment_takes s ≡ after → layout_text new row tokens ≡ layout_text old row tokens ++ text
+    → rendered_behind template names old (s ∷ rest) next kinds row tokens ≡ rendered_behind template names new rest after kinds row tokens
+segment_moves template names kinds old new s rest next after row tokens text e at grown =
+    let own : Scene = scene template names kinds row tokens in
     let before : List ℕ = layout_text old row tokens in
     ap (λ (r : Result (List ℕ) Fault). continued (Ok before) (continued r (rendered own (next + segment_takes s) rest))) e
     ∙ continued-continued before text (rendered own (next + segment_takes s) rest)
     ∙ ap (λ (t : List ℕ). continued (Ok t) (rendered own (next + segment_takes s) rest)) (sym grown)
     ∙ ap (λ (n : ℕ). continued (Ok (layout_text new row tokens)) (rendered own n rest)) at
 
-pub literal_moves : (template : List ℕ) (kinds : List Kind) (old new : Parts) (span : Span) (rest : List Segment) (next : ℕ) → Grows old new (λ row tokens. covered template span) → Moves template kinds old (Literal span ∷ rest) next new rest next
-literal_moves template kinds old new span rest next grows row tokens are =
-    segment_moves template kinds old new (Literal span) rest next next row tokens (covered template span) refl (let e : next + 0 ≡ next = omega arith in e) (grows row tokens)
+pub literal_moves : (template : List ℕ) (names : List (List ℕ)) (kinds : List Kind) (old new : Parts) (span : Span) (rest : List Segment) (next : ℕ) → Grows old new (λ row tokens. covered template span) → Moves template names kinds old (Literal span ∷ rest) next new rest next
+literal_moves template names kinds old new span rest next grows row tokens are =
+    segment_moves template names kinds old new (Literal span) rest next next row tokens (covered template span) refl (let e : next + 0 ≡ next = omega arith in e) (grows row tokens)
 
-pub open_moves : (template : List ℕ) (kinds : List Kind) (old new : Parts) (rest : List Segment) (next : ℕ) → Grows old new (λ row tokens. codes "{") → Moves template kinds old (EscapedOpen ∷ rest) next new rest next
-open_moves template kinds old new rest next grows row tokens are =
-    segment_moves template kinds old new EscapedOpen rest next next row tokens (codes "{") refl (let e : next + 0 ≡ next = omega arith in e) (grows row tokens)
+pub open_moves : (template : List ℕ) (names : List (List ℕ)) (kinds : List Kind) (old new : Parts) (rest : List Segment) (next : ℕ) → Grows old new (λ row tokens. codes "{") → Moves template names kinds old (EscapedOpen ∷ rest) next new rest next
+open_moves template names kinds old new rest next grows row tokens are =
+    segment_moves template names kinds old new EscapedOpen rest next next row tokens (codes "{") refl (let e : next + 0 ≡ next = omega arith in e) (grows row tokens)
 
-pub close_moves : (template : List ℕ) (kinds : List Kind) (old new : Parts) (rest : List Segment) (next : ℕ) → Grows old new (λ row tokens. codes "}") → Moves template kinds old (EscapedClose ∷ rest) next new rest next
-close_moves template kinds old new rest next grows row tokens are =
-    segment_moves template kinds old new EscapedClose rest next next row tokens (codes "}") refl (let e : next + 0 ≡ next = omega arith in e) (grows row tokens)
+pub close_moves : (template : List ℕ) (names : List (List ℕ)) (kinds : List Kind) (old new : Parts) (rest : List Segment) (next : ℕ) → Grows old new (λ row tokens. codes "}") → Moves template names kinds old (EscapedClose ∷ rest) next new rest next
+close_moves template names kinds old new rest next grows row tokens are =
+    segment_moves template names kinds old new EscapedClose rest next next row tokens (codes "}") refl (let e : next + 0 ≡ next = omega arith in e) (grows row tokens)
 
--- the value of an argument without a name
-value_of : (s : Scene) (next place : ℕ) (argument : Argument) → place_of argument next ≡ Some place → value_at s next argument ≡ slice_get s.values place
-value_of s next place Implicit e = let same : next ≡ place = cc in ap (λ (i : ℕ). slice_get s.values i) same
-value_of s next place (Positional i) e = let same : i ≡ place = cc in ap (λ (j : ℕ). slice_get s.values j) same
-value_of s next place (Named span) e = cc
+-- the value of an argument
+value_of : (template : List ℕ) (names : List (List ℕ)) (kinds : List Kind) (row : List ℕ) (tokens : List Token) (next place : ℕ) (argument : Argument) → place_of template names argument next ≡ Some place
+    → value_at (scene template names kinds row tokens) next argument ≡ slice_get (scene template names kinds row tokens).values place
+value_of template names kinds row tokens next place Implicit e = ap (option_and_then (λ i. slice_get (scene template names kinds row tokens).values i)) e
+value_of template names kinds row tokens next place (Positional i) e = ap (option_and_then (λ i. slice_get (scene template names kinds row tokens).values i)) e
+value_of template names kinds row tokens next place (Named span) e = ap (option_and_then (λ i. slice_get (scene template names kinds row tokens).values i)) e
 
 taken : (argument : Argument) (next : ℕ) → next + (0 + argument_takes argument) ≡ place_after argument next
-taken Implicit next = omega arith
-taken (Positional i) next = omega arith
-taken (Named span) next = omega arith
+taken argument next = omega arith
 
-bare_moves : (template : List ℕ) (kinds : List Kind) (old new : Parts) (argument : Argument) (span : Span) (rest : List Segment) (next place after : ℕ) (form : Form)
-    → place_of argument next ≡ Some place → HasForm kinds place form → after ≡ place_after argument next → Grows old new (λ row tokens. text_where form row (slice_get tokens place))
-    → Moves template kinds old (Placed (record { argument = argument; spec = no_options; span = span }) ∷ rest) next new rest after
-bare_moves template kinds old new argument span rest next place after form e has is_after grows row tokens are =
+bare_moves : (template : List ℕ) (names : List (List ℕ)) (kinds : List Kind) (old new : Parts) (argument : Argument) (span : Span) (rest : List Segment) (next place after : ℕ) (form : Form)
+    → place_of template names argument next ≡ Some place → HasForm kinds place form → after ≡ place_after argument next → Grows old new (λ row tokens. text_where form row (slice_get tokens place))
+    → Moves template names kinds old (Placed (record { argument = argument; spec = no_options; span = span }) ∷ rest) next new rest after
+bare_moves template names kinds old new argument span rest next place after form e has is_after grows row tokens are =
     let h = here formatx_meaning kinds row tokens place has.0 are has.1 in
-    let own : Scene = scene template kinds row tokens in
+    let own : Scene = scene template names kinds row tokens in
     let m : Meaning = formatx_meaning has.0 (datum_at has.0 row h.token) in
     let text : List ℕ = token_text form row h.token in
-    let there : value_at own next argument ≡ Some m = value_of own next place argument e ∙ h.value in
+    let there : value_at own next argument ≡ Some m = value_of template names kinds row tokens next place argument e ∙ h.value in
     let shown : m.display ≡ text = token_told has.0 row h.token h.is ∙ ap (λ (o : Option Form). told o row h.token) has.2 in
     let grown : layout_text new row tokens ≡ layout_text old row tokens ++ text = grows row tokens ∙ ap (λ (o : Option Token). layout_text old row tokens ++ text_where form row o) h.at in
-    segment_moves template kinds old new (Placed (record { argument = argument; spec = no_options; span = span })) rest next after row tokens text
+    segment_moves template names kinds old new (Placed (record { argument = argument; spec = no_options; span = span })) rest next after row tokens text
     (placeholder_bare own next argument span m there refl ∙ ap (λ (t : List ℕ). Ok t) shown) (taken argument next ∙ sym is_after) grown
 
-pub placeholder_moves : (template : List ℕ) (kinds : List Kind) (old new : Parts) (p : Placeholder) (rest : List Segment) (next place after : ℕ) (form : Form)
-    → IsPlain p.spec → place_of p.argument next ≡ Some place → HasForm kinds place form → after ≡ place_after p.argument next → Grows old new (λ row tokens. text_where form row (slice_get tokens place))
-    → Moves template kinds old (Placed p ∷ rest) next new rest after
-placeholder_moves template kinds old new p rest next place after form plain e has is_after grows =
-    subst (λ (spec : FormatSpec). Moves template kinds old (Placed (record { argument = p.argument; spec = spec; span = p.span }) ∷ rest) next new rest after) (sym (plain_is p.spec plain))
-    (bare_moves template kinds old new p.argument p.span rest next place after form e has is_after grows)
+pub placeholder_moves : (template : List ℕ) (names : List (List ℕ)) (kinds : List Kind) (old new : Parts) (p : Placeholder) (rest : List Segment) (next place after : ℕ) (form : Form)
+    → IsPlain p.spec → place_of template names p.argument next ≡ Some place → HasForm kinds place form → after ≡ place_after p.argument next → Grows old new (λ row tokens. text_where form row (slice_get tokens place))
+    → Moves template names kinds old (Placed p ∷ rest) next new rest after
+placeholder_moves template names kinds old new p rest next place after form plain e has is_after grows =
+    subst (λ (spec : FormatSpec). Moves template names kinds old (Placed (record { argument = p.argument; spec = spec; span = p.span }) ∷ rest) next new rest after) (sym (plain_is p.spec plain))
+    (bare_moves template names kinds old new p.argument p.span rest next place after form e has is_after grows)
 
 -- ---- the whole
 
-pub start : (template : List ℕ) (kinds : List Kind) (segments : List Segment) (layout : Parts) (row : List ℕ) (tokens : List Token) → layout_text layout row tokens ≡ [] → rendered (scene template kinds row tokens) 0 segments ≡ rendered_behind template layout segments 0 kinds row tokens
-start template kinds segments layout row tokens e = ap (λ (t : List ℕ). continued (Ok t) (rendered (scene template kinds row tokens) 0 segments)) (sym e)
+pub start : (template : List ℕ) (names : List (List ℕ)) (kinds : List Kind) (segments : List Segment) (layout : Parts) (row : List ℕ) (tokens : List Token) → layout_text layout row tokens ≡ [] → rendered (scene template names kinds row tokens) 0 segments ≡ rendered_behind template names layout segments 0 kinds row tokens
+start template names kinds segments layout row tokens e = ap (λ (t : List ℕ). continued (Ok t) (rendered (scene template names kinds row tokens) 0 segments)) (sym e)
 
-pub finish : (template : List ℕ) (kinds : List Kind) (layout : Parts) (next : ℕ) (row : List ℕ) (tokens : List Token) → whole (rendered_behind template layout [] next kinds row tokens) ≡ Ok (layout_text layout row tokens)
-finish template kinds layout next row tokens = ap (λ (t : List ℕ). Ok t) (append-nil (layout_text layout row tokens))
+pub finish : (template : List ℕ) (names : List (List ℕ)) (kinds : List Kind) (layout : Parts) (next : ℕ) (row : List ℕ) (tokens : List Token) → whole (rendered_behind template names layout [] next kinds row tokens) ≡ Ok (layout_text layout row tokens)
+finish template names kinds layout next row tokens = ap (λ (t : List ℕ). Ok t) (append-nil (layout_text layout row tokens))
 
 -- a layout that holds the segments of a template stands for it
-pub stands : (template : List ℕ) (kinds : List Kind) (segments : List Segment) → Spells template segments → (found : Option Parts) → IfSome found (IsWhole template kinds segments) → IfSome found (StandsFor Formatx template kinds)
-stands template kinds segments spells None h = tt
-stands template kinds segments spells (Some layout) h = λ row tokens are. (Ok (layout_text layout row tokens), (segments, spells, h row tokens are), refl)
+pub stands : (template : List ℕ) (names : List (List ℕ)) (kinds : List Kind) (segments : List Segment) → Spells template segments → (found : Option Parts) → IfSome found (IsWhole template names kinds segments) → IfSome found (StandsFor Formatx template names kinds)
+stands template names kinds segments spells None h = tt
+stands template names kinds segments spells (Some layout) h = λ row tokens are. (Ok (layout_text layout row tokens), (segments, spells, h row tokens are), refl)

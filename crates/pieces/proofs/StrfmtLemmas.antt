@@ -1,10 +1,10 @@
--- What patterns of strfmt that are a position alone print.
+-- What patterns of strfmt that are a key alone print.
 use Rattle.std.proofs.Common.{◌≡◌, ◌≢◌, ℕ, zero, suc, ◌+◌, ◌-◌, ◌<◌, ◌≤◌, ◌^◌, ◌==◌, ℤ, pos, negsuc, Bool, true, false, not, cond, if◌then◌else◌, List, [], ◌∷◌, ◌++◌, length, get_or, map, take, drop, slice_get, Option, Some, None, Ok, Err, refl, sym, ap, subst, ◌∙◌, w8, w16, w32, w64, Fits, FitsSigned, encode_utf8, encode_utf8_all, chars, codes, arith, append-nil, append_assoc, bytes_eq}
 use Rattle.std.specs.Fmt.{decimal, signed_decimal}
 use Rattle.std.specs.Bool.{⊤}
 use Rattle.std.specs.Int.{Width, is_negative, cast_signed}
 use Rattle.std.specs.List.{position_or_len}
-use Rattle.std.specs.Prelude.{slice_index, slice_range}
+use Rattle.std.specs.Prelude.{option_and_then, slice_index, slice_range}
 use Rattle.std.specs.Str.{IsUtf8}
 use Rattle.std.proofs.Math.Facts.{Fits-nat_abs, sfits_widen}
 use Rattle.std.proofs.Math.Seq.{take-length}
@@ -31,18 +31,20 @@ use Rattle.strfmt.specs.declared.types.Alignment.{Alignment}
 use Rattle.strfmt.specs.declared.types.Alignment.TheVariants.{Unspecified, Left, Right}
 use Rattle.strfmt.specs.declared.types.Sign.TheVariants.{Unspecified as NoSign}
 use Rattle.strfmt.proofs.CutLemmas.{cut_plain}
+use Rattle.printer.specs.Keys.{IsPlaceAtKey}
 use Rattle.printer.specs.Text.{value_at_key}
+use Rattle.printer.proofs.KeyLemmas.{found}
 use Rattle.printer.specs.declared.dialect.Dialect.TheVariants.{Strfmt}
 use Rattle.values.specs.declared.kind.Kind.{Kind}
 use Rattle.values.specs.declared.kind.Kind.TheVariants as Of
-use Rattle.values.specs.Datum.{each_of}
+use Rattle.values.specs.Datum.{Datum, each_of}
 use Rattle.values.specs.Templates.{strfmt_meaning}
 use Rattle.tokens.specs.declared.Token.{Token}
 use Rattle.tokens.specs.Tokens.{IsToken, datum_at, data_of}
 use Rattle.pieces.specs.declared.layout.Form.{Form}
 use Rattle.pieces.specs.Inner.Layout.{Parts, Grows, form_of, layout_text, text_where, token_text}
 use Rattle.pieces.specs.Inner.Sound.{HasForm, StandsFor}
-use Rattle.pieces.specs.Inner.Strfmt.{BeginsWithPlace, GoesOn, IsInPart, Moves, meanings}
+use Rattle.pieces.specs.Inner.Strfmt.{BeginsWithKey, GoesOn, HasNoMark, IsInPart, Moves, meanings}
 use Rattle.pieces.proofs.ValueLemmas.{here}
 
 -- ---- one text after the other
@@ -60,10 +62,10 @@ joined_plain m [] pieces = sym (next-nil (joined m pieces None))
 joined_plain m (b ∷ bs) pieces = ap (then_next (Ok (b ∷ []))) (joined_plain m bs pieces) ∙ next-next (b ∷ []) bs (joined m pieces None)
 
 -- pieces that print a text, by which the layout grows
-goes_on : (kinds : List Kind) (old new : Parts) (text rest : List ℕ) (row : List ℕ) (tokens : List Token) (pieces before : List Piece) (t : List ℕ) → IsCut before None text
-    → joined (meanings kinds row tokens) before None ≡ then_next (Ok t) (joined (meanings kinds row tokens) pieces None) → layout_text new row tokens ≡ layout_text old row tokens ++ t → GoesOn kinds old text new rest row tokens pieces
-goes_on kinds old new text rest row tokens pieces before t cut e grown =
-    let behind : Outcome = joined (meanings kinds row tokens) pieces None in (
+goes_on : (names : List (List ℕ)) (kinds : List Kind) (old new : Parts) (text rest : List ℕ) (row : List ℕ) (tokens : List Token) (pieces before : List Piece) (t : List ℕ) → IsCut before None text
+    → joined (meanings names kinds row tokens) before None ≡ then_next (Ok t) (joined (meanings names kinds row tokens) pieces None) → layout_text new row tokens ≡ layout_text old row tokens ++ t → GoesOn names kinds old text new rest row tokens pieces
+goes_on names kinds old new text rest row tokens pieces before t cut e grown =
+    let behind : Outcome = joined (meanings names kinds row tokens) pieces None in (
       before,
       cut,
       ap (then_next (Ok (layout_text old row tokens))) e
@@ -71,47 +73,38 @@ goes_on kinds old new text rest row tokens pieces before t cut e grown =
           ∙ ap (λ (x : List ℕ). then_next (Ok x) behind) (sym grown),
     )
 
-pub plain_moves : (kinds : List Kind) (old new : Parts) (text front rest : List ℕ) → IsPlainFront text front rest → Grows old new (λ row tokens. front) → Moves kinds old text new rest
-plain_moves kinds old new text front rest p grows row tokens pieces are cut =
-    goes_on kinds old new text rest row tokens pieces (map ordinary front ++ pieces) front (cut_plain text front rest pieces None p.plain p.whole cut) (joined_plain (meanings kinds row tokens) front pieces) (grows row tokens)
+pub plain_moves : (names : List (List ℕ)) (kinds : List Kind) (old new : Parts) (text front rest : List ℕ) → IsPlainFront text front rest → Grows old new (λ row tokens. front) → Moves names kinds old text new rest
+plain_moves names kinds old new text front rest p grows row tokens pieces are cut =
+    goes_on names kinds old new text rest row tokens pieces (map ordinary front ++ pieces) front (cut_plain text front rest pieces None p.plain p.whole cut) (joined_plain (meanings names kinds row tokens) front pieces) (grows row tokens)
 
-pub escape_moves : (kinds : List Kind) (old new : Parts) (text rest : List ℕ) (b : ℕ) → IsBrace b → text ≡ b ∷ b ∷ rest → Grows old new (λ row tokens. b ∷ []) → Moves kinds old text new rest
-escape_moves kinds old new text rest b brace e grows row tokens pieces are cut =
-    goes_on kinds old new text rest row tokens pieces (escape b ∷ pieces) (b ∷ []) (rest, (brace, e), cut) refl (grows row tokens)
+pub escape_moves : (names : List (List ℕ)) (kinds : List Kind) (old new : Parts) (text rest : List ℕ) (b : ℕ) → IsBrace b → text ≡ b ∷ b ∷ rest → Grows old new (λ row tokens. b ∷ []) → Moves names kinds old text new rest
+escape_moves names kinds old new text rest b brace e grows row tokens pieces are cut =
+    goes_on names kinds old new text rest row tokens pieces (escape b ∷ pieces) (b ∷ []) (rest, (brace, e), cut) refl (grows row tokens)
 
--- ---- digits
+not_true : (b : Bool) → (b ≡ true → ⊥) → b ≡ false
+not_true true h = absurd (h refl)
+not_true false h = refl
 
-abbrev AllDigits : List ℕ → Type 0
-AllDigits [] = ⊤
-AllDigits (b ∷ bs) = (48 ≤ b) × (b ≤ 57) × AllDigits bs
+-- ---- a key without a specification
 
-all_digits : (bs : List ℕ) → ((i : ℕ) → i < length bs → (48 ≤ get_or bs i 0) × (get_or bs i 0 ≤ 57)) → AllDigits bs
-all_digits [] f = tt
-all_digits (b ∷ bs) f = let h = f 0 (omega arith) in (h.0, h.1, all_digits bs (λ i l. f (suc i) (omega arith)))
-
-digits_all : (n : ℕ) → n < 2 ^ 64 → AllDigits (numeral 10 false n)
-digits_all n h = let wide : n < 2 ^ 128 = omega (arith, h) in all_digits (numeral 10 false n) (λ i l. numeral-decimal_digits n i false wide l)
-
-no_brace : (bs : List ℕ) → AllDigits bs → HasNoBrace bs
+no_brace : (bs : List ℕ) → HasNoMark bs → HasNoBrace bs
 no_brace [] h = tt
-no_brace (b ∷ bs) h =
-    let low : b ≤ 57 = h.1 in
-    let one : b ≢ 123 = omega (arith, low) in
-    let other : b ≢ 125 = omega (arith, low) in
-    ((one, other), no_brace bs h.2)
+no_brace (b ∷ bs) h = ((h.0, h.1), no_brace bs h.3)
 
-no_colon : (bs : List ℕ) → AllDigits bs → position_or_len (λ (b : ℕ). b == 58) bs ≡ length bs
+no_colon : (bs : List ℕ) → HasNoMark bs → position_or_len (λ (b : ℕ). b == 58) bs ≡ length bs
 no_colon [] h = refl
 no_colon (b ∷ bs) h =
-    let low : b ≤ 57 = h.1 in
-    let other : (b == 58) ≡ false = grind (arith, nat_tests) in
+    let other : (b == 58) ≡ false = not_true (b == 58) (λ e. h.2 (same b e)) in
     ap (λ (t : Bool). cond (not t) (1 + position_or_len (λ (x : ℕ). x == 58) bs) 0) other
-    ∙ (let e : 1 + position_or_len (λ (x : ℕ). x == 58) bs ≡ suc (length bs) = omega (arith, no_colon bs h.2) in e)
+    ∙ (let e : 1 + position_or_len (λ (x : ℕ). x == 58) bs ≡ suc (length bs) = omega (arith, no_colon bs h.3) in e)
+  where
+    same : (b : ℕ) → (b == 58) ≡ true → b ≡ 58
+    same b e = grind (arith, nat_tests)
 
-key_is : (bs : List ℕ) → AllDigits bs → key_of bs ≡ bs
+key_is : (bs : List ℕ) → HasNoMark bs → key_of bs ≡ bs
 key_is bs h = ap (λ (n : ℕ). take n bs) (no_colon bs h) ∙ take-length bs
 
-specification_is : (bs : List ℕ) → AllDigits bs → specification_of bs ≡ []
+specification_is : (bs : List ℕ) → HasNoMark bs → specification_of bs ≡ []
 specification_is bs h = ap (λ (n : ℕ). drop (n + 1) bs) (no_colon bs h) ∙ drop_all (length bs + 1) bs (omega arith)
 
 -- ---- a pattern without a specification
@@ -141,10 +134,6 @@ no_number = ([], refl, refl, refl, refl)
 nothing_written : IsWritten [] no_parts
 nothing_written = ([], [], [], [], [], [], [], (no_fill, (refl, refl)), (refl, refl), not_in_front 35 (omega arith), not_in_front 48 (omega arith), no_number, not_in_front 44 (omega arith), not_in_front 46 (omega arith), (refl, refl))
 
-not_true : (b : Bool) → (b ≡ true → ⊥) → b ≡ false
-not_true true h = absurd (h refl)
-not_true false h = refl
-
 some_key : (bs : List ℕ) → 0 < length bs → (length bs == 0) ≡ false
 some_key bs h = grind (arith, nat_tests)
 
@@ -158,23 +147,13 @@ read_bare inner key specification some = (
 
 -- ---- the value of a key
 
-key_value : {A : Type 0} (values : List A) (from place : ℕ) → from + place < 2 ^ 64 → value_at_key from [] values (numeral 10 false (from + place)) ≡ slice_get values place
-key_value [] from place h = refl
-key_value (v ∷ values) from zero h =
-    let same : from + 0 ≡ from = omega arith in
-    let hit : bytes_eq (numeral 10 false (from + 0)) (numeral 10 false from) ≡ true = (bytes_eq-Decides (numeral 10 false (from + 0)) (numeral 10 false from)).1 (ap (numeral 10 false) same) in
-    ap (λ (b : Bool). if b then Some v else value_at_key (from + 1) [] values (numeral 10 false (from + 0))) hit
-key_value (v ∷ values) from (suc place) h =
-    let key : List ℕ = numeral 10 false (from + suc place) in
-    let missed : bytes_eq key (numeral 10 false from) ≡ false = not_true (bytes_eq key (numeral 10 false from)) (λ t.
-    let wide : from + suc place < 2 ^ 128 = omega (arith, h) in
-    let small : from < 2 ^ 128 = omega (arith, h) in
-    let same : from + suc place ≡ from = numeral-injective 10 (from + suc place) from false (omega arith) (omega arith) wide small ((bytes_eq-Decides key (numeral 10 false from)).0 t) in
-    let bad : ⊥ = omega (arith, same) in bad) in
-    let next : from + suc place ≡ from + 1 + place = omega arith in
-    ap (λ (b : Bool). if b then Some v else value_at_key (from + 1) [] values key) missed
-    ∙ ap (λ (n : ℕ). value_at_key (from + 1) [] values (numeral 10 false n)) next
-    ∙ key_value values (from + 1) place (omega (arith, h))
+few_values : {A : Type 0} (meaning : Kind → Datum → A) (kinds : List Kind) (values : List Datum) → length (each_of meaning kinds values) ≤ length kinds
+few_values meaning [] values = omega arith
+few_values meaning (k ∷ kinds) [] = omega arith
+few_values meaning (k ∷ kinds) (v ∷ values) = let rest : length (each_of meaning kinds values) ≤ length kinds = few_values meaning kinds values in omega (arith, rest)
+
+key_value : {A : Type 0} (names : List (List ℕ)) (values : List A) (key : List ℕ) (place : ℕ) → IsPlaceAtKey names key (Some place) → length values ≤ 2 ^ 64 → value_at_key 0 names values key ≡ slice_get values place
+key_value names values key place at short = found names values key at.0 at.1 short ∙ ap (λ o. option_and_then (λ i. slice_get values i) o) (sym at.2)
 
 -- ---- tokens
 
@@ -230,40 +209,38 @@ token_told Of.Char row token is = absurd is.value
 
 -- ---- a pattern
 
-pub pattern_moves : (kinds : List Kind) (old new : Parts) (text rest : List ℕ) (place : ℕ) (form : Form) → place < 2 ^ 64 → BeginsWithPlace place text rest → HasForm kinds place form → Grows old new (λ row tokens. text_where form row (slice_get tokens place)) → Moves kinds old (123 ∷ text) new rest
-pattern_moves kinds old new text rest place form small begins has grows row tokens pieces are cut =
-    let inner : List ℕ = numeral 10 false place in
+pub pattern_moves : (names : List (List ℕ)) (kinds : List Kind) (old new : Parts) (text rest : List ℕ) (place : ℕ) (form : Form) → length kinds ≤ 2 ^ 64 → BeginsWithKey names place text rest → HasForm kinds place form → Grows old new (λ row tokens. text_where form row (slice_get tokens place)) → Moves names kinds old (123 ∷ text) new rest
+pattern_moves names kinds old new text rest place form short begins has grows row tokens pieces are cut =
+    let inner : List ℕ = begins.key in
     let h = here strfmt_meaning kinds row tokens place has.0 are has.1 in
     let values : List Meaning = each_of strfmt_meaning kinds (data_of kinds row tokens) in
+    let few : length values ≤ length kinds = few_values strfmt_meaning kinds (data_of kinds row tokens) in
     let m : Meaning = strfmt_meaning has.0 (datum_at has.0 row h.token) in
     let t : List ℕ = token_text form row h.token in
     let view : View = bare_view inner inner in
-    let digits : AllDigits inner = digits_all place small in
-    let some : 0 < length inner = numeral-some 10 place false (omega arith) (omega (arith, small)) in
-    let read : IsRead inner (Ok view) = read_bare inner (key_is inner digits) (specification_is inner digits) some in
-    let own : 0 + place ≡ place = omega arith in
-    let found : value_at_key 0 [] values inner ≡ Some m = ap (λ (n : ℕ). value_at_key 0 [] values (numeral 10 false n)) (sym own) ∙ key_value values 0 place (omega (arith, small)) ∙ h.value in
-    let filled : filled_by (value_at_key 0 [] values inner) view ≡ Ok t =
-    ap (λ (o : Option Meaning). filled_by o view) found ∙ token_told has.0 row h.token h.is ∙ ap (λ (o : Option Form). Ok (told o row h.token)) has.2 in
+    let read : IsRead inner (Ok view) = read_bare inner (key_is inner begins.plain) (specification_is inner begins.plain) begins.some in
+    let valued : value_at_key 0 names values inner ≡ Some m = key_value names values inner place begins.at (omega (arith, few, short)) ∙ h.value in
+    let filled : filled_by (value_at_key 0 names values inner) view ≡ Ok t =
+    ap (λ (o : Option Meaning). filled_by o view) valued ∙ token_told has.0 row h.token h.is ∙ ap (λ (o : Option Form). Ok (told o row h.token)) has.2 in
     let grown : layout_text new row tokens ≡ layout_text old row tokens ++ t = grows row tokens ∙ ap (λ (o : Option Token). layout_text old row tokens ++ text_where form row o) h.at in
-    goes_on kinds old new (123 ∷ text) rest row tokens pieces (pattern view ∷ pieces) t
-    (rest, (inner, (no_brace inner digits, ap (λ (x : List ℕ). 123 ∷ x) begins), read), cut)
-    (ap (λ (o : Outcome). then_next o (joined (meanings kinds row tokens) pieces None)) filled) grown
+    goes_on names kinds old new (123 ∷ text) rest row tokens pieces (pattern view ∷ pieces) t
+    (rest, (inner, (no_brace inner begins.plain, ap (λ (x : List ℕ). 123 ∷ x) begins.whole), read), cut)
+    (ap (λ (o : Outcome). then_next o (joined (meanings names kinds row tokens) pieces None)) filled) grown
 
 -- ---- the whole
 
-pub start : (kinds : List Kind) (template : List ℕ) (layout : Parts) → ((row : List ℕ) (tokens : List Token) → layout_text layout row tokens ≡ []) → IsInPart kinds template layout template
-start kinds template layout empty row tokens pieces are cut =
-    let all : Outcome = joined (meanings kinds row tokens) pieces None in
+pub start : (names : List (List ℕ)) (kinds : List Kind) (template : List ℕ) (layout : Parts) → ((row : List ℕ) (tokens : List Token) → layout_text layout row tokens ≡ []) → IsInPart names kinds template layout template
+start names kinds template layout empty row tokens pieces are cut =
+    let all : Outcome = joined (meanings names kinds row tokens) pieces None in
     (pieces, cut, sym (ap (λ (t : List ℕ). then_next (Ok t) all) (empty row tokens) ∙ next-nil all))
 
-pub further : (kinds : List Kind) (template : List ℕ) (old new : Parts) (text rest : List ℕ) → IsInPart kinds template old text → Moves kinds old text new rest → IsInPart kinds template new rest
-further kinds template old new text rest before moves row tokens pieces are cut =
+pub further : (names : List (List ℕ)) (kinds : List Kind) (template : List ℕ) (old new : Parts) (text rest : List ℕ) → IsInPart names kinds template old text → Moves names kinds old text new rest → IsInPart names kinds template new rest
+further names kinds template old new text rest before moves row tokens pieces are cut =
     let step = moves row tokens pieces are cut in
     let whole = before row tokens step.0 are step.1 in
     (whole.0, whole.1, whole.2 ∙ step.2)
 
-pub finish : (kinds : List Kind) (template : List ℕ) (layout : Parts) (rest : List ℕ) → rest ≡ [] → IsInPart kinds template layout rest → StandsFor Strfmt template kinds layout
-finish kinds template layout rest e done row tokens are =
+pub finish : (names : List (List ℕ)) (kinds : List Kind) (template : List ℕ) (layout : Parts) (rest : List ℕ) → rest ≡ [] → IsInPart names kinds template layout rest → StandsFor Strfmt template names kinds layout
+finish names kinds template layout rest e done row tokens are =
     let whole = done row tokens [] are e in
     (Ok (layout_text layout row tokens), (whole.0, None, whole.1, ap (λ (t : List ℕ). Ok t) (sym (append-nil (layout_text layout row tokens))) ∙ sym whole.2), refl)

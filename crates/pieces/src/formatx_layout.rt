@@ -1,6 +1,6 @@
 // Templates of formatx as layouts.
 ghost use Rattle.std.specs.Prelude.{◌≡◌, ◌∷◌, List, IfOk, IfSome, IsTrue};
-ghost use Rattle.formatx.specs.Spans.{Fits, SegmentFits};
+ghost use Rattle.formatx.specs.Spans.{ArgumentFits, Fits, PlaceholderFits, SegmentFits};
 ghost use Rattle.formatx.specs.declared.ast.Segment.{Segment as SegmentOf};
 ghost use Rattle.formatx.specs.declared.ast.Segment.TheVariants.{Placeholder as Placed};
 ghost use Rattle.printer.specs.declared.dialect.Dialect.TheVariants as Of;
@@ -10,6 +10,7 @@ ghost use Rattle.pieces.specs.Inner.Sound.{StandsFor};
 use crate::layout::{Layout, form_at};
 use formatx::{Argument, Error, FormatSpec, FormatType, Placeholder, Segment, parse};
 use numerals::NoMemory;
+use printer::PositionNames;
 use std::alloc::Global;
 use values::Kind;
 
@@ -23,14 +24,20 @@ fn is_plain(spec: &FormatSpec) -> bool
     spec.is_default()
 }
 
-/// The position of an argument; one that has a name has none here.
-fn place_of(argument: &Argument, next: usize) -> Option<usize>
-    ensures { result ≡ place_of argument.now next }
+/// The position of an argument; one whose name is unknown has none.
+fn place_of(
+    names: &PositionNames,
+    template: &str,
+    argument: &Argument,
+    next: usize,
+) -> Option<usize>
+    requires { ArgumentFits template.now argument.now }
+    ensures { result ≡ place_of template.now names.now argument.now next }
 {
     match argument {
         Argument::Implicit => Some(next),
         Argument::Positional(place) => Some(*place),
-        Argument::Named(_) => None,
+        Argument::Named(span) => names.place_of(&template[span.start..span.end]),
     }
 }
 
@@ -50,15 +57,17 @@ fn push_placeholder(
     layout: &mut Layout,
     template: &str,
     placeholder: &Placeholder,
+    names: &PositionNames,
     kinds: &[Kind],
     next: usize,
 ) -> Result<Option<usize>, NoMemory>
-    ensures { IfOk result (λ found. IfSome found (λ after. (rest : List SegmentOf) → Moves template.now kinds.now layout.old (Placed placeholder.now ∷ rest) next layout.new rest after)) }
+    requires { PlaceholderFits template.now placeholder.now }
+    ensures { IfOk result (λ found. IfSome found (λ after. (rest : List SegmentOf) → Moves template.now names.now kinds.now layout.old (Placed placeholder.now ∷ rest) next layout.new rest after)) }
 {
     if !is_plain(&placeholder.spec) {
         return Ok(None);
     }
-    let Some(place) = place_of(&placeholder.argument, next) else {
+    let Some(place) = place_of(names, template, &placeholder.argument, next) else {
         return Ok(None);
     };
     let Some(form) = form_at(kinds, place) else {
@@ -77,11 +86,12 @@ fn push_segment(
     layout: &mut Layout,
     template: &str,
     segment: &Segment,
+    names: &PositionNames,
     kinds: &[Kind],
     next: usize,
 ) -> Result<Option<usize>, NoMemory>
     requires { SegmentFits template.now segment.now }
-    ensures { IfOk result (λ found. IfSome found (λ after. (rest : List SegmentOf) → Moves template.now kinds.now layout.old (segment.now ∷ rest) next layout.new rest after)) }
+    ensures { IfOk result (λ found. IfSome found (λ after. (rest : List SegmentOf) → Moves template.now names.now kinds.now layout.old (segment.now ∷ rest) next layout.new rest after)) }
 {
     match segment {
         Segment::Literal(span) => {
@@ -97,7 +107,7 @@ fn push_segment(
             Ok(Some(next))
         }
         Segment::Placeholder(placeholder) => {
-            push_placeholder(alloc, layout, template, placeholder, kinds, next)
+            push_placeholder(alloc, layout, template, placeholder, names, kinds, next)
         }
     }
 }
@@ -107,16 +117,18 @@ fn lay_out_segments(
     alloc: Global,
     template: &str,
     segments: &[Segment],
+    names: &PositionNames,
     kinds: &[Kind],
 ) -> Result<Option<Layout>, NoMemory>
     requires { Fits template.now segments.now }
-    ensures { IfOk result (λ found. IfSome found (IsWhole template.now kinds.now segments.now)) }
+    ensures { IfOk result (λ found. IfSome found (IsWhole template.now names.now kinds.now segments.now)) }
 {
     let mut layout = Layout::new(alloc);
     let mut next = 0;
     let mut rest = segments;
     'segments: while let [segment, after @ ..] = rest {
-        let Some(place) = push_segment(alloc, &mut layout, template, segment, kinds, next)? else {
+        let Some(place) = push_segment(alloc, &mut layout, template, segment, names, kinds, next)?
+        else {
             return Ok(None);
         };
         next = place;
@@ -129,12 +141,13 @@ fn lay_out_segments(
 pub(crate) fn lay_out(
     alloc: Global,
     template: &str,
+    names: &PositionNames,
     kinds: &[Kind],
 ) -> Result<Option<Layout>, NoMemory>
-    ensures { IfOk result (λ found. IfSome found (StandsFor Of.Formatx template.now kinds.now)) }
+    ensures { IfOk result (λ found. IfSome found (StandsFor Of.Formatx template.now names.now kinds.now)) }
 {
     match parse(alloc, template) {
-        Ok(parsed) => lay_out_segments(alloc, template, &parsed.segments, kinds),
+        Ok(parsed) => lay_out_segments(alloc, template, &parsed.segments, names, kinds),
         Err(Error::NoMemory) => Err(NoMemory),
         Err(_) => Ok(None),
     }

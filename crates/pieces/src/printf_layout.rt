@@ -1,5 +1,5 @@
 // Printf formats as layouts.
-ghost use Rattle.std.specs.Prelude.{◌≡◌, ◌∷◌, List, IfOk, IfSome, IsTrue, slice_get, Some};
+ghost use Rattle.std.specs.Prelude.{◌≡◌, ◌∷◌, List, IfOk, IfSome, IsTrue, slice_get, Some, ℕ};
 ghost use Rattle.sprintf.specs.declared.parser.FormatElement.{FormatElement as ElementOf};
 ghost use Rattle.sprintf.specs.declared.parser.FormatElement.TheVariants.{Format};
 ghost use Rattle.printer.specs.declared.dialect.Dialect.TheVariants as Of;
@@ -195,7 +195,7 @@ pub(crate) fn lay_out(
     template: &str,
     kinds: &[Kind],
 ) -> Result<Option<Layout>, NoMemory>
-    ensures { IfOk result (λ found. IfSome found (StandsFor Of.Printf template.now kinds.now)) }
+    ensures { IfOk result (λ found. IfSome found (λ layout. (names : List (List ℕ)) → StandsFor Of.Printf template.now names kinds.now layout)) }
 {
     match parse_format_string(alloc, template) {
         Ok(elements) => lay_out_elements(alloc, &elements, kinds),

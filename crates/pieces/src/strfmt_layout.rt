@@ -1,34 +1,27 @@
 // Templates of strfmt as layouts.
 ghost use Rattle.std.specs.Prelude.{◌≡◌, ◌<◌, ◌≤◌, ◌∷◌, false, IfOk, IfSome, IsTrue, drop, length, take};
 ghost use Rattle.std.specs.Str.{byte};
-ghost use Rattle.numerals.specs.Numeral.{numeral};
 ghost use Rattle.strfmt.specs.Inner.Cutting.{IsPlainFront};
 ghost use Rattle.printer.specs.declared.dialect.Dialect.TheVariants as Of;
-ghost use Rattle.pieces.specs.Inner.Strfmt.{BeginsWithPlace, Moves};
+ghost use Rattle.pieces.specs.Inner.Strfmt.{BeginsWithKey, HasNoMark, Moves};
 ghost use Rattle.pieces.specs.Inner.Sound.{StandsFor};
 
 use crate::layout::{Layout, form_at};
-use numerals::{NoMemory, Radix, digits_of, read_digits};
+use numerals::NoMemory;
+use printer::PositionNames;
 use std::alloc::Global;
 use values::Kind;
 
-/// Whether the text is the number in decimal.
-fn is_decimal(text: &str, number: usize) -> bool
-    ensures { IsTrue result → text.now ≡ numeral 10 false number }
+/// Whether a brace or a colon is in the text.
+fn has_mark(text: &[u8]) -> bool
+    ensures { (result ≡ false) → HasNoMark text.now }
 {
-    let mut buffer = [0; 128];
-    text == digits_of(number as u128, Radix::Ten, false, &mut buffer)
-}
-
-/// The position that the text is in decimal, without a sign and without a zero in front.
-fn place_in(text: &str) -> Option<usize>
-    ensures { IfSome result (λ place. text.now ≡ numeral 10 false place) }
-{
-    let place = usize::try_from(read_digits(text, Radix::Ten)?).ok()?;
-    if is_decimal(text, place) {
-        return Some(place);
+    'bytes: for byte in text {
+        if matches!(*byte, b'{' | b'}' | b':') {
+            return true;
+        }
     }
-    None
+    false
 }
 
 /// Where the first brace stands, or the length.
@@ -59,9 +52,10 @@ fn split_plain(text: &str) -> (&str, &str)
 fn push_plain<'t>(
     layout: &mut Layout,
     text: &'t str,
+    names: &PositionNames,
     kinds: &[Kind],
 ) -> Result<Option<&'t str>, NoMemory>
-    ensures moves { IfOk result (λ found. IfSome found (λ rest. Moves kinds.now layout.old text.entry.now layout.new rest.now)) }
+    ensures moves { IfOk result (λ found. IfSome found (λ rest. Moves names.now kinds.now layout.old text.entry.now layout.new rest.now)) }
     ensures shorter { IfOk result (λ found. IfSome found (λ rest. length rest.now < length text.entry.now)) }
 {
     let (plain, rest) = split_plain(text);
@@ -72,27 +66,32 @@ fn push_plain<'t>(
     Ok(Some(rest))
 }
 
-/// The position in a pattern, of which `text` stands behind its opening brace, and what stands behind the pattern.
-fn split_place(text: &str) -> Option<(usize, &str)>
-    ensures { IfSome result (λ found. BeginsWithPlace found.0 text.entry.now found.1.now) }
+/// The position of the key in a pattern, of which `text` stands behind its opening brace, and what stands behind the pattern; None
+/// where the pattern isn't a key alone.
+fn split_key<'t>(names: &PositionNames, text: &'t str) -> Option<(usize, &'t str)>
+    ensures { IfSome result (λ found. BeginsWithKey names.now found.0 text.entry.now found.1.now) }
 {
-    let (inner, rest) = text.split_once('}')?;
-    let place = place_in(inner)?;
+    let (key, rest) = text.split_once('}')?;
+    if key.is_empty() || has_mark(key.as_bytes()) {
+        return None;
+    }
+    let place = names.place_at_key(key)?;
     Some((place, rest))
 }
 
 /// Takes a pattern in, of which `text` stands behind its opening brace, and gives the text behind it; None where the
-/// pattern isn't a position alone.
+/// pattern isn't a key alone.
 fn push_pattern<'t>(
     alloc: Global,
     layout: &mut Layout,
     text: &'t str,
+    names: &PositionNames,
     kinds: &[Kind],
 ) -> Result<Option<&'t str>, NoMemory>
-    ensures moves { IfOk result (λ found. IfSome found (λ rest. Moves kinds.now layout.old (byte "{" ∷ text.entry.now) layout.new rest.now)) }
+    ensures moves { IfOk result (λ found. IfSome found (λ rest. Moves names.now kinds.now layout.old (byte "{" ∷ text.entry.now) layout.new rest.now)) }
     ensures shorter { IfOk result (λ found. IfSome found (λ rest. length rest.now < length text.entry.now)) }
 {
-    let Some((place, rest)) = split_place(text) else {
+    let Some((place, rest)) = split_key(names, text) else {
         return Ok(None);
     };
     let Some(form) = form_at(kinds, place) else {
@@ -107,9 +106,10 @@ fn push_front<'t>(
     alloc: Global,
     layout: &mut Layout,
     text: &'t str,
+    names: &PositionNames,
     kinds: &[Kind],
 ) -> Result<Option<&'t str>, NoMemory>
-    ensures moves { IfOk result (λ found. IfSome found (λ rest. Moves kinds.now layout.old text.entry.now layout.new rest.now)) }
+    ensures moves { IfOk result (λ found. IfSome found (λ rest. Moves names.now kinds.now layout.old text.entry.now layout.new rest.now)) }
     ensures shorter { IfOk result (λ found. IfSome found (λ rest. length rest.now < length text.entry.now)) }
 {
     if let Some(rest) = text.strip_prefix("{{") {
@@ -121,23 +121,24 @@ fn push_front<'t>(
         return Ok(Some(rest));
     }
     match text.strip_prefix('{') {
-        Some(pattern) => push_pattern(alloc, layout, pattern, kinds),
-        None => push_plain(layout, text, kinds),
+        Some(pattern) => push_pattern(alloc, layout, pattern, names, kinds),
+        None => push_plain(layout, text, names, kinds),
     }
 }
 
-/// The layout of a strfmt text, where each pattern is the position of a value.
+/// The layout of a strfmt text, where each pattern is the key of a value alone.
 pub(crate) fn lay_out(
     alloc: Global,
     template: &str,
+    names: &PositionNames,
     kinds: &[Kind],
 ) -> Result<Option<Layout>, NoMemory>
-    ensures { IfOk result (λ found. IfSome found (StandsFor Of.Strfmt template.now kinds.now)) }
+    ensures { IfOk result (λ found. IfSome found (StandsFor Of.Strfmt template.now names.now kinds.now)) }
 {
     let mut layout = Layout::new(alloc);
     let mut rest = template;
     'fronts: while !rest.is_empty() {
-        let found = push_front(alloc, &mut layout, rest, kinds)?;
+        let found = push_front(alloc, &mut layout, rest, names, kinds)?;
         let Some(after) = found else {
             return Ok(None);
         };

@@ -18,7 +18,7 @@ use Rattle.values.specs.Datum.{kind_of, datum_of, each_of, word_text}
 use Rattle.values.specs.Decimal.{IsDecimal}
 use Rattle.values.specs.Templates.{strfmt_meaning, value_display}
 use Rattle.printer.specs.Text.{value_at_key, named_from}
-use Rattle.printer.specs.Inner.Keys.{first_of}
+use Rattle.printer.specs.Keys.{first_of}
 use Rattle.printer.proofs.ValueLemmas.{each_value}
 
 -- ---- the first of two positions

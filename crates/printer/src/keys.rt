@@ -4,7 +4,7 @@ ghost use Rattle.formatx.specs.Scene.{named};
 ghost use Rattle.values.specs.Datum.{datum_of, each_of, kind_of, word_text};
 ghost use Rattle.values.specs.Templates.{strfmt_meaning, value_display};
 ghost use Rattle.printer.specs.Text.{named_from, value_at_key};
-ghost use Rattle.printer.specs.Inner.Keys.{first_of};
+ghost use Rattle.printer.specs.Keys.{first_of, IsPlaceAtKey};
 
 use formatx::Names;
 use numerals::NoMemory;
@@ -14,7 +14,7 @@ use values::{Value, Word, read_decimal};
 
 /// The names of the first positions. In contracts they are the list of their texts.
 #[derive(Drop)]
-pub(crate) struct PositionNames {
+pub struct PositionNames {
     /// The names in order.
     words: Vec<Word>,
     /// The first position that each name stands for.
@@ -36,7 +36,7 @@ impl Model for PositionNames {
 
 impl PositionNames {
     /// The words as names, from the position 0 on.
-    pub(crate) fn new(alloc: Global, words: &[Word]) -> Result<PositionNames, NoMemory>
+    pub fn new(alloc: Global, words: &[Word]) -> Result<PositionNames, NoMemory>
         ensures { IfOk result (λ names. names ≡ map word_text words.now) }
     {
         let mut copies = Vec::new(alloc);
@@ -55,6 +55,20 @@ impl PositionNames {
             words: copies,
             positions,
         })
+    }
+
+    /// The position that a name of formatx names: that of the first equal name.
+    pub fn place_of(&self, name: &str) -> Option<usize>
+        ensures { result ≡ named_from 0 self.now name.now }
+    {
+        self.positions().position(name)
+    }
+
+    /// The position that a key of strfmt names: the first that it is in decimal or by name. There may be no value at it.
+    pub fn place_at_key(&self, key: &str) -> Option<usize>
+        ensures { IsPlaceAtKey self.now key.now result }
+    {
+        first_of(read_decimal(key), self.positions().position(key))
     }
 
     /// The names with their positions.
@@ -83,6 +97,6 @@ pub(crate) fn value_at<'v>(
 ) -> Option<&'v Value>
     ensures { option_map value_display (option_copied result) ≡ value_at_key 0 names.now (each_of strfmt_meaning (map kind_of values.now) (map datum_of values.now)) key.now }
 {
-    let place = first_of(read_decimal(key), names.positions().position(key))?;
+    let place = names.place_at_key(key)?;
     values.get(place)
 }

@@ -11,5 +11,6 @@ mod told;
 
 pub use dialect::Dialect;
 pub use error::{PrinterError, RenderFault, TemplateFault, TextError};
+pub use keys::PositionNames;
 pub use laws::{dialect_words_differ, prints_once};
 pub use printer::Printer;

@@ -1,5 +1,5 @@
 -- When a layout stands for a template.
-use Rattle.std.specs.Prelude.{◌≡◌, ℕ, List, [], slice_get, Some, Ok}
+use Rattle.std.specs.Prelude.{◌≡◌, ℕ, List, slice_get, Some, Ok}
 use Rattle.values.specs.declared.kind.Kind.{Kind}
 use Rattle.printer.specs.declared.dialect.Dialect.{Dialect}
 use Rattle.printer.specs.Text.{PrintsBy}
@@ -11,12 +11,12 @@ use Rattle.pieces.specs.declared.layout.Form.{Form}
 use Rattle.pieces.specs.Inner.Layout.{Parts, form_of, layout_text}
 
 -- Over each row, the text of the layout is what the template prints of the tokens' values.
-abbrev pub StandsFor : Dialect → List ℕ → List Kind → Parts → Type 0
-StandsFor dialect template kinds layout = (row : List ℕ) (tokens : List Token) → AreTokens kinds row tokens → PrintsBy dialect template [] kinds (data_of kinds row tokens) (Ok (layout_text layout row tokens))
+abbrev pub StandsFor : Dialect → List ℕ → List (List ℕ) → List Kind → Parts → Type 0
+StandsFor dialect template names kinds layout = (row : List ℕ) (tokens : List Token) → AreTokens kinds row tokens → PrintsBy dialect template names kinds (data_of kinds row tokens) (Ok (layout_text layout row tokens))
 
 -- The same over each row whose tokens stand where the columns' fields do.
-abbrev pub StandsOver : Dialect → List ℕ → List Column → List Kind → Parts → Type 0
-StandsOver dialect template columns kinds layout = (row : List ℕ) (tokens : List Token) → AreTokens kinds row tokens → AreFieldsAt columns kinds row tokens → PrintsBy dialect template [] kinds (data_of kinds row tokens) (Ok (layout_text layout row tokens))
+abbrev pub StandsOver : Dialect → List ℕ → List (List ℕ) → List Column → List Kind → Parts → Type 0
+StandsOver dialect template names columns kinds layout = (row : List ℕ) (tokens : List Token) → AreTokens kinds row tokens → AreFieldsAt columns kinds row tokens → PrintsBy dialect template names kinds (data_of kinds row tokens) (Ok (layout_text layout row tokens))
 
 -- The kind at the place has this form.
 abbrev pub HasForm : List Kind → ℕ → Form → Type 0

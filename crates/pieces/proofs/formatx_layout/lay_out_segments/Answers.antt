@@ -13,5 +13,5 @@ pub returns : goal.returns
 returns c = λ row tokens are.
     let done : c.segments.rest.now ≡ [] = no_segment c.segments.rest.now (omega (arith, c.in_default.len_below)) in
     ap whole (c.segments.invariant.0 row tokens are)
-    ∙ ap (λ (ss : List Segment). whole (rendered_behind c.args.template.now c.segments.layout ss c.segments.next c.args.kinds.now row tokens)) done
-    ∙ finish c.args.template.now c.args.kinds.now c.segments.layout c.segments.next row tokens
+    ∙ ap (λ (ss : List Segment). whole (rendered_behind c.args.template.now c.args.names.now c.segments.layout ss c.segments.next c.args.kinds.now row tokens)) done
+    ∙ finish c.args.template.now c.args.names.now c.args.kinds.now c.segments.layout c.segments.next row tokens
