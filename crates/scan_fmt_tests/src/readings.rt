@@ -2,13 +2,65 @@
 use scan_fmt::parse::{ReadAs, ReadHex, ReadToken, Tokens, scan};
 use std::alloc::Global;
 use std::fmt::Display;
-use std::process::Abort;
 use std::test::Fail;
 
-/// The one token of a word.
-fn tokens_of(alloc: Global, word: &str) -> Result<Tokens, Fail> {
-    Ok(scan(alloc, word, "{s}").ok().ok_or("no memory")?)
-}
+// Each line is a type, a word, and the value that its one token reads as, or why there is none.
+const READINGS: &str = "\
+    u8\t255\t255\n\
+    u8\t256\tBad\n\
+    u16\t65535\t65535\n\
+    u16\t-1\tBad\n\
+    u32\t4294967295\t4294967295\n\
+    u32\t007\t7\n\
+    u64\t18446744073709551615\t18446744073709551615\n\
+    u64\t0x1\tBad\n\
+    u128\t340282366920938463463374607431768211455\t340282366920938463463374607431768211455\n\
+    u128\t1.\tBad\n\
+    usize\t+5\t5\n\
+    usize\t++5\tBad\n\
+    i8\t-128\t-128\n\
+    i8\t128\tBad\n\
+    i16\t-32768\t-32768\n\
+    i16\t-32769\tBad\n\
+    i32\t-2147483648\t-2147483648\n\
+    i32\t-\tBad\n\
+    i64\t9223372036854775807\t9223372036854775807\n\
+    i64\t9223372036854775808\tBad\n\
+    i128\t-0\t0\n\
+    i128\t+1\t1\n\
+    isize\t-1\t-1\n\
+    isize\ta\tBad\n\
+    hex u8\tff\t255\n\
+    hex u8\t-1\tBad\n\
+    hex u16\tFFFF\t65535\n\
+    hex u16\t10000\tBad\n\
+    hex u32\t+f\t15\n\
+    hex u32\tg\tBad\n\
+    hex u64\tffffffffffffffff\t18446744073709551615\n\
+    hex u64\t0xf\tBad\n\
+    hex u128\t10\t16\n\
+    hex u128\t+\tBad\n\
+    hex usize\t1F\t31\n\
+    hex usize\t1f\t31\n\
+    hex i8\t-80\t-128\n\
+    hex i8\t80\tBad\n\
+    hex i16\t-8000\t-32768\n\
+    hex i16\t8000\tBad\n\
+    hex i32\t7fffffff\t2147483647\n\
+    hex i32\t80000000\tBad\n\
+    hex i64\t-1\t-1\n\
+    hex i64\t--1\tBad\n\
+    hex i128\t-a\t-10\n\
+    hex i128\t-\tBad\n\
+    hex isize\t+F\t15\n\
+    hex isize\t1_0\tBad\n\
+    bool\ttrue\ttrue\n\
+    bool\tTrue\tBad\n\
+    char\té\té\n\
+    char\téé\tBad\n\
+    String\téé\téé\n\
+    String\t\tMissing\n\
+";
 
 /// A reading as text: its value, or why there is none.
 pub fn shown<T: Display + Drop>(alloc: Global, reading: Result<T, ReadAs>) -> Result<String, Fail> {
@@ -18,104 +70,91 @@ pub fn shown<T: Display + Drop>(alloc: Global, reading: Result<T, ReadAs>) -> Re
     }
 }
 
-/// Reads the two words as the type.
-fn reads<T: ReadToken + Display + Drop>(
-    rt: &impl Abort,
+/// The place of a name in a list of names.
+pub fn place_of(name: &str, names: &[&str]) -> Option<usize> {
+    names.iter().position(|it| *it == name)
+}
+
+/// Reads the next token.
+fn read<T: ReadToken + Display + Drop>(alloc: Global, tokens: &mut Tokens) -> Result<String, Fail> {
+    shown(alloc, tokens.next_as::<T>())
+}
+
+/// Reads the next token in base 16.
+fn read_hex<T: ReadHex + Display + Drop>(
     alloc: Global,
-    words: [&str; 2],
-    answers: [&str; 2],
-) -> Result<(), Fail> {
-    for (word, answer) in words.iter().zip(answers.iter()) {
-        let reading = tokens_of(alloc, word)?.next_as::<T>();
-        assert_eq!(rt; shown(alloc, reading)?.as_str(), *answer);
+    tokens: &mut Tokens,
+) -> Result<String, Fail> {
+    shown(alloc, tokens.next_hex::<T>())
+}
+
+/// Reads the next token at the named type.
+fn read_at(alloc: Global, tokens: &mut Tokens, name: &str) -> Result<String, Fail> {
+    let names = [
+        "u8", "u16", "u32", "u64", "u128", "usize", "i8", "i16", "i32", "i64", "i128", "isize",
+        "bool", "char", "String",
+    ];
+    match place_of(name, &names) {
+        Some(0) => read::<u8>(alloc, tokens),
+        Some(1) => read::<u16>(alloc, tokens),
+        Some(2) => read::<u32>(alloc, tokens),
+        Some(3) => read::<u64>(alloc, tokens),
+        Some(4) => read::<u128>(alloc, tokens),
+        Some(5) => read::<usize>(alloc, tokens),
+        Some(6) => read::<i8>(alloc, tokens),
+        Some(7) => read::<i16>(alloc, tokens),
+        Some(8) => read::<i32>(alloc, tokens),
+        Some(9) => read::<i64>(alloc, tokens),
+        Some(10) => read::<i128>(alloc, tokens),
+        Some(11) => read::<isize>(alloc, tokens),
+        Some(12) => read::<bool>(alloc, tokens),
+        Some(13) => read::<char>(alloc, tokens),
+        Some(14) => read::<String>(alloc, tokens),
+        _ => Err(Fail::from("no such type")),
+    }
+}
+
+/// Reads the next token in base 16 at the named type.
+fn read_hex_at(alloc: Global, tokens: &mut Tokens, name: &str) -> Result<String, Fail> {
+    let names = [
+        "u8", "u16", "u32", "u64", "u128", "usize", "i8", "i16", "i32", "i64", "i128", "isize",
+    ];
+    match place_of(name, &names) {
+        Some(0) => read_hex::<u8>(alloc, tokens),
+        Some(1) => read_hex::<u16>(alloc, tokens),
+        Some(2) => read_hex::<u32>(alloc, tokens),
+        Some(3) => read_hex::<u64>(alloc, tokens),
+        Some(4) => read_hex::<u128>(alloc, tokens),
+        Some(5) => read_hex::<usize>(alloc, tokens),
+        Some(6) => read_hex::<i8>(alloc, tokens),
+        Some(7) => read_hex::<i16>(alloc, tokens),
+        Some(8) => read_hex::<i32>(alloc, tokens),
+        Some(9) => read_hex::<i64>(alloc, tokens),
+        Some(10) => read_hex::<i128>(alloc, tokens),
+        Some(11) => read_hex::<isize>(alloc, tokens),
+        _ => Err(Fail::from("no such type")),
+    }
+}
+
+/// What the word's one token reads as at the named type, in base 16 where `hex ` stands before the name.
+fn reading(alloc: Global, name: &str, word: &str) -> Result<String, Fail> {
+    let tokens = scan(alloc, word, "{s}");
+    let mut tokens = tokens.ok().ok_or("no memory")?;
+    match name.strip_prefix("hex ") {
+        Some(name) => read_hex_at(alloc, &mut tokens, name),
+        None => read_at(alloc, &mut tokens, name),
+    }
+}
+
+#[test]
+fn words_read(rt: HostRuntime) -> Result<(), Fail> {
+    for row in READINGS.lines() {
+        let (name, rest) = row.split_once('\t').ok_or("no word")?;
+        let (word, want) = rest.split_once('\t').ok_or("no reading")?;
+        let found = reading(rt.alloc(), name, word)?;
+        assert_eq!(rt; found.as_str(), want, "{row}");
     }
     Ok(())
-}
-
-/// Reads the two words in base 16.
-fn reads_hex<T: ReadHex + Display + Drop>(
-    rt: &impl Abort,
-    alloc: Global,
-    words: [&str; 2],
-    answers: [&str; 2],
-) -> Result<(), Fail> {
-    for (word, answer) in words.iter().zip(answers.iter()) {
-        let reading = tokens_of(alloc, word)?.next_hex::<T>();
-        assert_eq!(rt; shown(alloc, reading)?.as_str(), *answer);
-    }
-    Ok(())
-}
-
-#[test]
-fn unsigned_integers_read(rt: HostRuntime) -> Result<(), Fail> {
-    let alloc = rt.alloc();
-    reads::<u8>(&rt, alloc, ["255", "256"], ["255", "Bad"])?;
-    reads::<u16>(&rt, alloc, ["65535", "-1"], ["65535", "Bad"])?;
-    reads::<u32>(&rt, alloc, ["4294967295", "007"], ["4294967295", "7"])?;
-    reads::<u64>(
-        &rt,
-        alloc,
-        ["18446744073709551615", "0x1"],
-        ["18446744073709551615", "Bad"],
-    )?;
-    reads::<u128>(
-        &rt,
-        alloc,
-        ["340282366920938463463374607431768211455", "1."],
-        ["340282366920938463463374607431768211455", "Bad"],
-    )?;
-    reads::<usize>(&rt, alloc, ["+5", "++5"], ["5", "Bad"])
-}
-
-#[test]
-fn signed_integers_read(rt: HostRuntime) -> Result<(), Fail> {
-    let alloc = rt.alloc();
-    reads::<i8>(&rt, alloc, ["-128", "128"], ["-128", "Bad"])?;
-    reads::<i16>(&rt, alloc, ["-32768", "-32769"], ["-32768", "Bad"])?;
-    reads::<i32>(&rt, alloc, ["-2147483648", "-"], ["-2147483648", "Bad"])?;
-    reads::<i64>(
-        &rt,
-        alloc,
-        ["9223372036854775807", "9223372036854775808"],
-        ["9223372036854775807", "Bad"],
-    )?;
-    reads::<i128>(&rt, alloc, ["-0", "+1"], ["0", "1"])?;
-    reads::<isize>(&rt, alloc, ["-1", "a"], ["-1", "Bad"])
-}
-
-#[test]
-fn integers_read_in_base_16(rt: HostRuntime) -> Result<(), Fail> {
-    let alloc = rt.alloc();
-    reads_hex::<u8>(&rt, alloc, ["ff", "-1"], ["255", "Bad"])?;
-    reads_hex::<u16>(&rt, alloc, ["FFFF", "10000"], ["65535", "Bad"])?;
-    reads_hex::<u32>(&rt, alloc, ["+f", "g"], ["15", "Bad"])?;
-    reads_hex::<u64>(
-        &rt,
-        alloc,
-        ["ffffffffffffffff", "0xf"],
-        ["18446744073709551615", "Bad"],
-    )?;
-    reads_hex::<u128>(&rt, alloc, ["10", "+"], ["16", "Bad"])?;
-    reads_hex::<usize>(&rt, alloc, ["1F", "1f"], ["31", "31"])
-}
-
-#[test]
-fn signed_integers_read_in_base_16(rt: HostRuntime) -> Result<(), Fail> {
-    let alloc = rt.alloc();
-    reads_hex::<i8>(&rt, alloc, ["-80", "80"], ["-128", "Bad"])?;
-    reads_hex::<i16>(&rt, alloc, ["-8000", "8000"], ["-32768", "Bad"])?;
-    reads_hex::<i32>(&rt, alloc, ["7fffffff", "80000000"], ["2147483647", "Bad"])?;
-    reads_hex::<i64>(&rt, alloc, ["-1", "--1"], ["-1", "Bad"])?;
-    reads_hex::<i128>(&rt, alloc, ["-a", "-"], ["-10", "Bad"])?;
-    reads_hex::<isize>(&rt, alloc, ["+F", "1_0"], ["15", "Bad"])
-}
-
-#[test]
-fn other_types_read(rt: HostRuntime) -> Result<(), Fail> {
-    let alloc = rt.alloc();
-    reads::<bool>(&rt, alloc, ["true", "True"], ["true", "Bad"])?;
-    reads::<char>(&rt, alloc, ["é", "éé"], ["é", "Bad"])?;
-    reads::<String>(&rt, alloc, ["éé", ""], ["éé", "Missing"])
 }
 
 #[test]
