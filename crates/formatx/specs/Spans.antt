@@ -11,7 +11,6 @@ use Rattle.formatx.specs.declared.ast.Count.TheVariants.{Param}
 use Rattle.formatx.specs.declared.ast.CountParam.TheVariants.{Named}
 use Rattle.formatx.specs.declared.ast.Precision.{Precision}
 use Rattle.formatx.specs.declared.ast.Precision.TheVariants.{Count as Counted, Star}
-use Rattle.formatx.specs.declared.ast.Placeholder.{Placeholder}
 use Rattle.formatx.specs.declared.ast.Segment.{Segment}
 use Rattle.formatx.specs.declared.ast.Segment.TheVariants.{Literal, Placeholder as Placed}
 
@@ -34,17 +33,11 @@ abbrev pub PrecisionFits : List ℕ → Precision → Type 0
 PrecisionFits source (Counted c) = CountFits source c
 PrecisionFits source Star = ⊤
 
--- each span of the placeholder fits the text
-pub record PlaceholderFits (source : List ℕ) (p : Placeholder) : Type 0 where
-  pub whole : SpanFits source p.span
-  pub argument : ArgumentFits source p.argument
-  pub width : MatchOption p.spec.width ⊤ (CountFits source)
-  pub precision : MatchOption p.spec.precision ⊤ (PrecisionFits source)
-
--- each span of the segment fits the text
+-- each span of the segment fits the text: its own, and those of the names in a placeholder
 abbrev pub SegmentFits : List ℕ → Segment → Type 0
 SegmentFits source (Literal s) = SpanFits source s
-SegmentFits source (Placed p) = PlaceholderFits source p
+SegmentFits source (Placed p) =
+    SpanFits source p.span × ArgumentFits source p.argument × MatchOption p.spec.width ⊤ (CountFits source) × MatchOption p.spec.precision ⊤ (PrecisionFits source)
 SegmentFits source _ = ⊤
 
 -- each span of each segment fits the text

@@ -3,7 +3,7 @@ ghost use Rattle.std.specs.Prelude.{◌≡◌, ◌++◌, ◌+◌, ◌<◌, ◌�
 ghost use Rattle.numerals.specs.Numeral.{numeral};
 ghost use Rattle.formatx.specs.Fault.{Tells};
 ghost use Rattle.formatx.specs.Inner.Answers.{Answers};
-ghost use Rattle.formatx.specs.Spans.{ArgumentFits, CountFits, Fits, PlaceholderFits, PrecisionFits, SegmentFits, SpanFits};
+ghost use Rattle.formatx.specs.Spans.{ArgumentFits, CountFits, Fits, PrecisionFits, SegmentFits, SpanFits};
 ghost use Rattle.formatx.specs.Field.{aligned, body_of, by_shape, cut, field_text, gap_of, number_body, padding_of, shaped, shown_by, sign_text};
 ghost use Rattle.formatx.specs.Scene.{covered, scene_over};
 ghost use Rattle.formatx.specs.Inner.Scenes.{scene_of};
@@ -471,7 +471,7 @@ fn push_present<V: FormatValue>(
     precision: Option<usize>,
     value: &V,
 ) -> Result<(), Error>
-    requires { PlaceholderFits input.now.source.now placeholder.now }
+    requires { SegmentFits input.now.source.now (Segment.Placeholder placeholder.now) }
     ensures ok { OnOk result (Appends (present_text (scene_of V.meaning input.now) placeholder.now precision (V.meaning value.now)) (string_bytes output.old) (string_bytes output.new)) }
     ensures err { IfErr result (λ e. Tells e (λ fault. present_text (scene_of V.meaning input.now) placeholder.now precision (V.meaning value.now) ≡ Err fault)) }
     ensures unchanged { OnErr result (string_bytes output.new ≡ string_bytes output.old) }
@@ -520,7 +520,7 @@ fn refuse_missing<V: FormatValue>(
     next: usize,
     placeholder: &Placeholder,
 ) -> Result<(), Error>
-    requires { PlaceholderFits input.now.source.now placeholder.now }
+    requires { SegmentFits input.now.source.now (Segment.Placeholder placeholder.now) }
     ensures ok { OnOk result (IsFalse input.now.strict) }
     ensures err { IfErr result (λ e. Tells e (λ fault. argument_text (scene_of V.meaning input.now) next placeholder.now None None ≡ Err fault)) }
 {
@@ -543,7 +543,7 @@ fn push_placeholder<V: FormatValue>(
     next: usize,
     placeholder: &Placeholder,
 ) -> Result<(), Error>
-    requires fits { PlaceholderFits input.now.source.now placeholder.now }
+    requires fits { SegmentFits input.now.source.now (Segment.Placeholder placeholder.now) }
     requires room { next + 1 < 2 ^ 64 }
     ensures ok { OnOk result (Appends (placeholder_text (scene_of V.meaning input.now) next placeholder.now) (string_bytes output.old) (string_bytes output.new)) }
     ensures err { IfErr result (λ e. Tells e (λ fault. placeholder_text (scene_of V.meaning input.now) next placeholder.now ≡ Err fault)) }

@@ -8,7 +8,7 @@ ghost use Rattle.formatx.specs.Words.{after, begins, is_plain, is_word, is_word_
 ghost use Rattle.formatx.specs.Options.{align_by, alternate_of, count_of, fill_align_of, first_char, follows_zero, number_in, precision_of, sign_of, type_by, type_of, zero_of};
 ghost use Rattle.formatx.specs.Placeholders.{argument_of, follows_argument, options_of, placeholder_of, spec_of};
 ghost use Rattle.formatx.specs.Grammar.{BeginsWithFault, HasFault, IsSegment, IsTemplate, Spells};
-ghost use Rattle.formatx.specs.Spans.{ArgumentFits, CountFits, Fits, PlaceholderFits, PrecisionFits, SegmentFits, SpanFits, Tiles};
+ghost use Rattle.formatx.specs.Spans.{ArgumentFits, CountFits, Fits, PrecisionFits, SegmentFits, SpanFits, Tiles};
 ghost use Rattle.formatx.specs.Inner.Answers.{Answers};
 ghost use Rattle.formatx.specs.Inner.Ends.{IsEnd};
 ghost use Rattle.formatx.specs.Inner.Parts.{SpecFits, hex_of, number_count_of};
@@ -532,7 +532,7 @@ fn placeholder<'t>(
     ensures value { Answers (λ r. (r.0, r.1.now)) (placeholder_of (length source.now) text.now) result }
     ensures leaves { IfOk result (λ r. IsEnd text.now r.1.now) }
     ensures shorter { IfOk result (λ r. length r.1.now < length text.now) }
-    ensures fits { IfOk result (λ r. PlaceholderFits source.now r.0) }
+    ensures fits { IfOk result (λ r. SegmentFits source.now (Segment.Placeholder r.0)) }
 {
     let (argument, rest) = argument(alloc, source, skip_byte(text))?;
     let (spec, rest) = spec(alloc, source, rest)?;
