@@ -30,10 +30,12 @@ fn prints_many(
     alloc: Global,
     dialect: Dialect,
     template: &str,
+    columns: &[&str],
+    want: &str,
 ) -> Result<(), Fail> {
     let printer = Printer::new(alloc, dialect, template).map_err(no_printer)?;
     let mut out = String::from_str(alloc, "a:")?;
-    for column in ["u8:1 word:x", "char:é i64:-5", "word:b char:c"] {
+    for column in columns {
         let values = values_of(alloc, column)?;
         assert_eq!(rt;
             printer.text_into(alloc, &values, &mut out),
@@ -41,27 +43,24 @@ fn prints_many(
             "{template}"
         );
     }
-    assert_eq!(rt; out.as_str(), "a:1x.é-5.bc.", "{template}");
+    assert_eq!(rt; out.as_str(), want, "{template}");
     Ok(())
 }
 
 #[test]
 fn a_printer_prints_many_lists(rt: HostRuntime) -> Result<(), Fail> {
-    prints_many(&rt, rt.alloc(), Dialect::Strfmt, "{0}{1}.")?;
-    prints_many(&rt, rt.alloc(), Dialect::Formatx, "{}{}.")
+    let alloc = rt.alloc();
+    let columns = ["u8:1 word:x", "char:é i64:-5", "word:b char:c"];
+    let want = "a:1x.é-5.bc.";
+    prints_many(&rt, alloc, Dialect::Strfmt, "{0}{1}.", &columns, want)?;
+    prints_many(&rt, alloc, Dialect::Formatx, "{}{}.", &columns, want)
 }
 
 #[test]
 fn a_printf_printer_prints_many_lists(rt: HostRuntime) -> Result<(), Fail> {
-    let alloc = rt.alloc();
-    let printer = Printer::new(alloc, Dialect::Printf, "%s=%d;").map_err(no_printer)?;
-    let mut out = String::new(alloc);
-    for column in ["word:a u8:1", "word:é i64:-5"] {
-        let values = values_of(alloc, column)?;
-        assert_eq!(rt; printer.text_into(alloc, &values, &mut out), Ok(()));
-    }
-    assert_eq!(rt; out.as_str(), "a=1;é=-5;");
-    Ok(())
+    let columns = ["word:a u8:1", "word:é i64:-5"];
+    let want = "a:a=1;é=-5;";
+    prints_many(&rt, rt.alloc(), Dialect::Printf, "%s=%d;", &columns, want)
 }
 
 // The template refuses the values after a text, and the output is as it was.
