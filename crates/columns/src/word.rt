@@ -12,8 +12,8 @@ pub(crate) const LONGEST: usize = 2_147_483_647;
 fn ends_word(byte: u8, stop: u8) -> bool
     ensures { result ≡ false → IsWordByte stop byte }
 {
-    (byte <= b' ' && (byte == b' ' || byte == b'\n' || byte == b'\t' || byte == b'\r'))
-        || byte == stop
+    byte == stop
+        || (byte <= b' ' && (byte == b' ' || byte == b'\n' || byte == b'\t' || byte == b'\r'))
 }
 
 // How many bytes stand in front of the first that ends a word.
