@@ -7,12 +7,18 @@ mod reformat_proved;
 
 use std::test::Fail;
 
+/// The line in front of what a module prints.
+fn heading(rt: &HostRuntime, module: &str) -> Result<(), Fail> {
+    println!(rt; "# {module}")?;
+    Ok(())
+}
+
 fn main(rt: HostRuntime) -> Result<(), Fail> {
-    println!(rt; "# line_job_page")?;
+    heading(&rt, "line_job_page")?;
     line_job_page::show(&rt)?;
-    println!(rt; "# reformat_page")?;
+    heading(&rt, "reformat_page")?;
     reformat_page::show(&rt)?;
-    println!(rt; "# reformat_proved")?;
+    heading(&rt, "reformat_proved")?;
     reformat_proved::show(&rt)?;
     Ok(())
 }

@@ -16,7 +16,7 @@ fn echo(alloc: Global, text: &str) -> Result<String, FmtError> {
 }
 
 /// A text that is cut once, and filled for each number.
-fn column(alloc: Global, numbers: &[u32]) -> Result<String, Fail> {
+fn column(alloc: Global, numbers: &[u32]) -> Result<String, FmtError> {
     let template = Template::new(alloc, "[{n:>4}]")?;
     let mut out = String::new(alloc);
     for number in numbers {

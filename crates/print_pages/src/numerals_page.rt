@@ -5,7 +5,7 @@ use std::test::Fail;
 /// An offset in eight hexadecimal digits at least.
 fn offset(out: &mut String, number: u128) -> Result<(), NoMemory> {
     for _missing in count_digits(number, Radix::Sixteen)..8 {
-        out.push('0').map_err(|_| NoMemory)?;
+        out.push('0')?;
     }
     push_digits(out, number, Radix::Sixteen, false)
 }

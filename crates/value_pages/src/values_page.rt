@@ -22,7 +22,7 @@ fn in_braces(alloc: Global, value: Value) -> Result<String, Fail> {
 }
 
 /// The values in a formatx template.
-fn by_position(alloc: Global, values: &[Value]) -> Result<String, Fail> {
+fn by_position(alloc: Global, values: &[Value]) -> Result<String, formatx::Error> {
     let template = Template::new(alloc, "{1} {0:?}")?;
     let mut out = String::new(alloc);
     template.render_into(alloc, &mut out, values, &[], true)?;

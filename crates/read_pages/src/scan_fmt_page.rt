@@ -1,3 +1,4 @@
+use numerals::NoMemory;
 use scan_fmt::parse::{Format, ReadAs, scan, scan_slices};
 use std::alloc::Global;
 use std::test::Fail;
@@ -11,7 +12,7 @@ fn pair(alloc: Global, line: &str) -> Result<(u32, u32), Fail> {
 }
 
 /// How many lines hold two numbers. The format is cut once.
-fn pairs(alloc: Global, text: &str) -> Result<usize, Fail> {
+fn pairs(alloc: Global, text: &str) -> Result<usize, NoMemory> {
     let format = Format::new(alloc, "{d} {d}")?;
     let mut count = 0usize;
     for line in text.lines() {
