@@ -7,15 +7,15 @@ ghost use Rattle.rewriting.specs.Rules.{Stage, rewrite_rules, heading_next, afte
 ghost use Rattle.rewriting.specs.Inner.State.{stage_of, version_of, IsHeaderNext, IsSoundState};
 ghost use Rattle.rewriting.specs.Inner.Clear.{rewrite_clear};
 
-use crate::fast::{Fast, find_fast};
-use crate::rows::{Room, Source, read_source, rewrite_row};
+use crate::fast::find_fast;
+use crate::rows::{Room, Rows, Source, read_source};
 use bumpalo::Bump;
 use header_lines::{
     Fields, Headed, Heading, LineCause, Version, read_dialect, read_heading, read_template,
 };
 use line_job::{LineJob, Refusal};
 use numerals::NoMemory;
-use printer::{Dialect, Printer};
+use printer::Dialect;
 use std::alloc::Global;
 use std::mem;
 
@@ -26,7 +26,7 @@ pub(crate) enum State<'a> {
     Format(Fields),
     Dialect(Fields, Source<'a>),
     Template(Fields, Source<'a>, Dialect),
-    Rows(Version, Source<'a>, Printer<'a>, Option<Fast>),
+    Rows(Version, Rows<'a>),
 }
 
 impl State<'_> {
@@ -40,7 +40,7 @@ impl State<'_> {
             State::Format(fields) => fields.version,
             State::Dialect(fields, _) => fields.version,
             State::Template(fields, _, _) => fields.version,
-            State::Rows(version, _, _, _) => *version,
+            State::Rows(version, _) => *version,
         }
     }
 }
@@ -83,13 +83,18 @@ fn read_header<'a>(
         State::Template(fields, source, dialect) => {
             let printer = read_template(alloc, texts, number, dialect, &fields.names, line)?;
             match find_fast(alloc, &fields, source.text, dialect, line) {
-                Ok(fast) => Ok(State::Rows(fields.version, source, printer, fast)),
+                Ok(fast) => {
+                    let rows = Rows {
+                        source,
+                        printer,
+                        fast,
+                    };
+                    Ok(State::Rows(fields.version, rows))
+                }
                 Err(NoMemory) => Err(Refusal::NoMemory),
             }
         }
-        State::Rows(version, source, printer, fast) => {
-            Ok(State::Rows(version, source, printer, fast))
-        }
+        State::Rows(version, rows) => Ok(State::Rows(version, rows)),
     }
 }
 
@@ -164,9 +169,8 @@ impl LineJob for Rewrite<'_> {
         line: &str,
         out: &mut String,
     ) -> Result<(), Refusal<LineCause>> {
-        if let State::Rows(_, source, printer, fast) = &self.state {
-            let room = &mut self.room;
-            return rewrite_row(alloc, source, printer, fast, number, line, room, out);
+        if let State::Rows(_, rows) = &self.state {
+            return rows.rewrite(alloc, number, line, &mut self.room, out);
         }
         self.take_header(alloc, number, line)
     }
@@ -182,7 +186,7 @@ impl LineJob for Rewrite<'_> {
             State::Format(fields) => fields.version.number_in(2),
             State::Dialect(fields, _) => fields.version.number_in(3),
             State::Template(fields, _, _) => fields.version.number_in(4),
-            State::Rows(_, _, _, _) => return Ok(()),
+            State::Rows(_, _) => return Ok(()),
         };
         Err(Refusal::Line(LineCause::Header { line: missing }))
     }

@@ -1,5 +1,5 @@
 // The rows' format, and rows that are read by it and printed.
-ghost use Rattle.std.specs.Prelude.{◌≡◌, ◌++◌, ◌∷◌, [], ℕ, List, IfOk, IfSome, IsTrue, OnOk, OnErr, false, string_bytes};
+ghost use Rattle.std.specs.Prelude.{◌≡◌, ◌++◌, ◌∷◌, [], ℕ, List, IfOk, IsTrue, OnOk, OnErr, false, string_bytes};
 ghost use Rattle.whiteread.specs.Lines.{line_feed};
 ghost use Rattle.row_plan.specs.Plan.{IsRead};
 ghost use Rattle.line_job.specs.Refusal.{IfRefused};
@@ -7,7 +7,7 @@ ghost use Rattle.header_lines.specs.Headers.{RefusesFormatLine};
 ghost use Rattle.header_lines.specs.declared.heading.Version.{Version};
 ghost use Rattle.rewriting.specs.Rewrite.{IsRewrittenAs};
 ghost use Rattle.rewriting.specs.Rules.{RefusesRow};
-ghost use Rattle.rewriting.specs.Inner.State.{layout_of, IsSoundSource, IsNoRow, IsWayTo};
+ghost use Rattle.rewriting.specs.Inner.State.{layout_of, IsSoundRows, IsSoundSource, IsNoRow};
 ghost use Rattle.rewriting.specs.Inner.Fast.{HasWritten};
 
 use crate::fast::Fast;
@@ -60,46 +60,16 @@ fn read_values(
     source: &Source<'_>,
     number: u64,
     row: &str,
-    again: &mut String,
+    text: &mut String,
 ) -> Result<Vec<Value>, Refusal<LineCause>>
     requires { IsSoundSource source.now }
     ensures read { IfOk result (λ values. IsRead source.now.plan row.now values.items) }
     ensures refused { IfRefused result (IsNoRow source.now.plan number row.now) }
 {
-    match source.plan.read_row_by(alloc, &source.format, row, again) {
+    match source.plan.read_row_by(alloc, &source.format, row, text) {
         Ok(values) => Ok(values),
         Err(RowError::NotARow) => Err(Refusal::Line(LineCause::NotARow { line: number })),
         Err(RowError::NoMemory) => Err(Refusal::NoMemory),
-    }
-}
-
-/// Rewrites a row by the plan of its format and the template's printer; `again` is a text in which it is printed again.
-/// It stands apart, so that it doesn't slow the fast way.
-#[cold]
-fn rewrite_by_plan(
-    alloc: Global,
-    source: &Source<'_>,
-    printer: &Printer<'_>,
-    number: u64,
-    row: &str,
-    again: &mut String,
-    out: &mut String,
-) -> Result<(), Refusal<LineCause>>
-    requires { IsSoundSource source.now }
-    ensures kept { (version : Version) → OnOk result ((line : List ℕ) × IsRewrittenAs (layout_of version source.now printer.now) row.now line × (string_bytes out.new ≡ string_bytes out.old ++ (line ++ line_feed ∷ []))) }
-    ensures refused { (version : Version) → IfRefused result (RefusesRow (layout_of version source.now printer.now) number row.now) }
-    ensures as_before { OnErr result (string_bytes out.new ≡ string_bytes out.old) }
-{
-    prints_columns();
-    let values = read_values(alloc, source, number, row, again)?;
-    let before = out.len();
-    match printer.text_into(alloc, &values, out) {
-        Ok(()) => end_line(out, before),
-        Err(TextError::Fault(fault)) => Err(Refusal::Line(LineCause::Render {
-            line: number,
-            fault,
-        })),
-        Err(TextError::NoMemory) => Err(Refusal::NoMemory),
     }
 }
 
@@ -120,10 +90,10 @@ fn rewrite_fast(
     }
 }
 
-/// Room that is kept for all rows: a text in which a row is printed again, and the values of a row.
+/// Room that is kept for all rows: a text in which a row's fields are printed again, and the values of a row.
 #[derive(Drop)]
 pub(crate) struct Room {
-    again: String,
+    text: String,
     tokens: Vec<Token>,
 }
 
@@ -131,36 +101,73 @@ impl Room {
     /// It takes no memory.
     pub(crate) fn new(alloc: Global) -> Room {
         Room {
-            again: String::new(alloc),
+            text: String::new(alloc),
             tokens: Vec::new(alloc),
         }
     }
 }
 
-/// Puts the line that the row is rewritten as, and a line feed, at the end of `out`. The row stands on the line of this
-/// number. Where the fast way doesn't rewrite it, the plan and the printer judge it.
-#[inline(never)]
-pub(crate) fn rewrite_row(
-    alloc: Global,
-    source: &Source<'_>,
-    printer: &Printer<'_>,
-    fast: &Option<Fast>,
-    number: u64,
-    row: &str,
-    room: &mut Room,
-    out: &mut String,
-) -> Result<(), Refusal<LineCause>>
-    requires source { IsSoundSource source.now }
-    requires fast { IfSome fast.now (IsWayTo source.now printer.now) }
-    ensures kept { (version : Version) → OnOk result ((line : List ℕ) × IsRewrittenAs (layout_of version source.now printer.now) row.now line × (string_bytes out.new ≡ string_bytes out.old ++ (line ++ line_feed ∷ []))) }
-    ensures refused { (version : Version) → IfRefused result (RefusesRow (layout_of version source.now printer.now) number row.now) }
-    ensures as_before { OnErr result (string_bytes out.new ≡ string_bytes out.old) }
-{
-    prints_columns();
-    has_one_list();
-    match rewrite_fast(fast, row, &mut room.tokens, out) {
-        Ok(true) => Ok(()),
-        Ok(false) => rewrite_by_plan(alloc, source, printer, number, row, &mut room.again, out),
-        Err(NoMemory) => Err(Refusal::NoMemory),
+/// How rows are rewritten: their format, the template that prints their values, and the fast way from one to the other, where
+/// there is one.
+#[derive(Drop)]
+pub(crate) struct Rows<'a> {
+    pub(crate) source: Source<'a>,
+    pub(crate) printer: Printer<'a>,
+    pub(crate) fast: Option<Fast>,
+}
+
+impl Rows<'_> {
+    /// Rewrites a row by the plan of its format and the template's printer; `text` is room in which its fields are printed again.
+    /// It stands apart, so that it doesn't slow the fast way.
+    #[cold]
+    fn rewrite_by_plan(
+        &self,
+        alloc: Global,
+        number: u64,
+        row: &str,
+        text: &mut String,
+        out: &mut String,
+    ) -> Result<(), Refusal<LineCause>>
+        requires { IsSoundSource self.now.source }
+        ensures kept { (version : Version) → OnOk result ((line : List ℕ) × IsRewrittenAs (layout_of version self.now.source self.now.printer) row.now line × (string_bytes out.new ≡ string_bytes out.old ++ (line ++ line_feed ∷ []))) }
+        ensures refused { (version : Version) → IfRefused result (RefusesRow (layout_of version self.now.source self.now.printer) number row.now) }
+        ensures as_before { OnErr result (string_bytes out.new ≡ string_bytes out.old) }
+    {
+        prints_columns();
+        let values = read_values(alloc, &self.source, number, row, text)?;
+        let before = out.len();
+        match self.printer.text_into(alloc, &values, out) {
+            Ok(()) => end_line(out, before),
+            Err(TextError::Fault(fault)) => Err(Refusal::Line(LineCause::Render {
+                line: number,
+                fault,
+            })),
+            Err(TextError::NoMemory) => Err(Refusal::NoMemory),
+        }
+    }
+
+    /// Puts the line that the row is rewritten as, and a line feed, at the end of `out`. The row stands on the line of this
+    /// number. Where the fast way doesn't rewrite it, the plan and the printer judge it.
+    #[inline(never)]
+    pub(crate) fn rewrite(
+        &self,
+        alloc: Global,
+        number: u64,
+        row: &str,
+        room: &mut Room,
+        out: &mut String,
+    ) -> Result<(), Refusal<LineCause>>
+        requires { IsSoundRows self.now }
+        ensures kept { (version : Version) → OnOk result ((line : List ℕ) × IsRewrittenAs (layout_of version self.now.source self.now.printer) row.now line × (string_bytes out.new ≡ string_bytes out.old ++ (line ++ line_feed ∷ []))) }
+        ensures refused { (version : Version) → IfRefused result (RefusesRow (layout_of version self.now.source self.now.printer) number row.now) }
+        ensures as_before { OnErr result (string_bytes out.new ≡ string_bytes out.old) }
+    {
+        prints_columns();
+        has_one_list();
+        match rewrite_fast(&self.fast, row, &mut room.tokens, out) {
+            Ok(true) => Ok(()),
+            Ok(false) => self.rewrite_by_plan(alloc, number, row, &mut room.text, out),
+            Err(NoMemory) => Err(Refusal::NoMemory),
+        }
     }
 }

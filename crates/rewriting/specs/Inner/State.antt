@@ -18,6 +18,7 @@ use Rattle.header_lines.specs.declared.heading.Fields.{Fields as FieldsRead}
 use Rattle.header_lines.specs.Heading.{first_next, kinds_next, names_next}
 use Rattle.header_lines.specs.Read.{fields_of, heading_of}
 use Rattle.rewriting.specs.declared.rows.Source.{Source}
+use Rattle.rewriting.specs.declared.rows.Rows.{Rows as RowsOf}
 use Rattle.rewriting.specs.declared.rewrite.State.{State}
 use Rattle.rewriting.specs.declared.rewrite.State.TheVariants.{Heading, Format, Dialect, Template, Rows}
 use Rattle.rewriting.specs.Inner.Fast.{FastWay, PrintsAlike}
@@ -40,7 +41,7 @@ stage_of (Heading heading) = heading_next (heading_of heading)
 stage_of (Format fields) = format_next (fields_of fields)
 stage_of (Dialect fields source) = dialect_next (fields_of fields) source.text.now
 stage_of (Template fields source dialect) = template_next (fields_of fields) source.text.now dialect
-stage_of (Rows version source printer fast) = rows_next (layout_of version source printer)
+stage_of (Rows version rows) = rows_next (layout_of version rows.source rows.printer)
 
 -- the version that the lines before the stage said; the first, where there are none
 abbrev pub version_of : Stage → Version
@@ -58,7 +59,7 @@ IsHeaderNext (Heading heading) = Unit {0}
 IsHeaderNext (Format fields) = Unit {0}
 IsHeaderNext (Dialect fields source) = Unit {0}
 IsHeaderNext (Template fields source dialect) = Unit {0}
-IsHeaderNext (Rows version source printer fast) = ⊥
+IsHeaderNext (Rows version rows) = ⊥
 
 -- the plan is that of the format's text, and the scanning format is the planned text
 pub record IsSoundSource (source : Source) : Type 0 where
@@ -67,6 +68,10 @@ pub record IsSoundSource (source : Source) : Type 0 where
   pub plannable : IsPlannable (columns_of elements).columns source.plan.kinds
   pub columns : source.plan.format ≡ columns_of elements
   pub cut : source.format ≡ chars (planned_text source.plan.format source.plan.kinds)
+
+-- the source is sound, and the fast way, if there is one, is from its rows to the template's lines
+abbrev pub IsSoundRows : RowsOf → Type 0
+IsSoundRows rows = IsSoundSource rows.source × IfSome rows.fast (IsWayTo rows.source rows.printer)
 
 -- the plan is sound, and of the kinds of these fields
 abbrev pub IsPlanFor : FieldsRead → Source → Type 0
@@ -78,7 +83,7 @@ IsSoundState (Heading heading) = Unit {0}
 IsSoundState (Format fields) = Unit {0}
 IsSoundState (Dialect fields source) = IsPlanFor fields source
 IsSoundState (Template fields source dialect) = IsPlanFor fields source
-IsSoundState (Rows version source printer fast) = IsSoundSource source × IfSome fast (IsWayTo source printer)
+IsSoundState (Rows version rows) = IsSoundRows rows
 
 -- the line of this number is a row of no values of the plan
 abbrev pub IsNoRow : Planned → ℕ → List ℕ → LineCause → Type 0
