@@ -130,7 +130,15 @@ fn output_after_a_fault(rt: HostRuntime) -> Result<(), Fail> {
     assert!(rt; parsed.fits(source));
     assert!(rt; !parsed.fits("x"));
     let mut out = String::from_str(alloc, "pre ")?;
-    let answer = render::<u8>(alloc, &mut out, source, &parsed, &[1, 2], &Names::new(alloc), false);
+    let answer = render::<u8>(
+        alloc,
+        &mut out,
+        source,
+        &parsed,
+        &[1, 2],
+        &Names::new(alloc),
+        false,
+    );
     assert!(rt; answer.is_err());
     assert_eq!(rt; out.as_str(), "pre x1");
     Ok(())
@@ -143,7 +151,15 @@ fn output_over_a_parsed_template(rt: HostRuntime) -> Result<(), Fail> {
     let parsed = parse(alloc, source)?;
     assert!(rt; parsed.fits(source));
     let mut out = String::new(alloc);
-    render::<u8>(alloc, &mut out, source, &parsed, &[1, 2, 3], &Names::new(alloc), true)?;
+    render::<u8>(
+        alloc,
+        &mut out,
+        source,
+        &parsed,
+        &[1, 2, 3],
+        &Names::new(alloc),
+        true,
+    )?;
     assert_eq!(rt; out.as_str(), "1 + 2 = 3");
     assert!(rt; FormatSpec::default().is_default());
     Ok(())

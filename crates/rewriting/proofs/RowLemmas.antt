@@ -24,7 +24,7 @@ use Rattle.header_lines.specs.declared.heading.Version.{Version}
 use Rattle.rewriting.specs.declared.rows.Source.{Source}
 use Rattle.rewriting.specs.Rewrite.{Layout, IsRow, IsRowOf, Renders, IsRewrittenAs}
 use Rattle.rewriting.specs.Rules.{rows_next, Keeps, RefusesRow}
-use Rattle.rewriting.specs.Inner.Fast.{FastWay, HasWritten, IsWayOf, IsWritten, NeedsNoNames}
+use Rattle.rewriting.specs.Inner.Fast.{FastWay, HasWritten, IsWayOf, IsWritten}
 use Rattle.rewriting.specs.Inner.State.{layout_of, IsSoundSource, IsNoRow, IsWayTo}
 
 abbrev row_is : List ℕ → Result (List ℕ) PrintfError
@@ -113,7 +113,7 @@ fast_rewritten columns one version source printing way row old new sound is writ
       only = λ others other. one source.plan.format source.plan.kinds row others written.values text plannable (plan_row columns source row others sound other) is_row;
     } in
     let prints : Renders (layout_of version source printing) written.values (text_is written.line) =
-    subst (λ (k : List Kind). Prints printing k written.values (text_is written.line)) is.kinds (is.prints way.kinds written.values written.line written.prints) in
+    subst (λ (k : List Kind). Prints printing k written.values (text_is written.line)) is.kinds (subst (λ (p : Printing). Prints p way.kinds written.values (text_is written.line)) is.printing_is written.prints) in
     (written.line, (written.values, of_row, prints), written.grown)
 
 -- the same, where the way is one that may be missing
@@ -126,25 +126,5 @@ if_rewritten columns one version source printing None row old new sound is writt
 pub way_found : (source : Source) (printing : Printing) (kinds : List Kind) (found : Option FastWay) → IsSoundSource source → source.plan.kinds ≡ kinds → IfSome found (IsWayOf source.text.now kinds printing) → IfSome found (IsWayTo source printing)
 way_found source printing kinds (Some way) sound same is =
     let columns : columns_of is.elements ≡ columns_of sound.elements = header_lines_are_clear.one_thing.columns source.text.now is.elements sound.elements is.spelled sound.spelled in
-    record { format = is.format_is ∙ columns ∙ sym sound.columns; kinds = is.kinds_are ∙ sym same; prints = is.prints }
+    record { format = is.format_is ∙ columns ∙ sym sound.columns; kinds = is.kinds_are ∙ sym same; printing_is = is.printing_is }
 way_found source printing kinds None sound same is = tt
-
--- a printf format has no names
-pub printf_needs_none : (dialect : Dialect) (names : List (List ℕ)) → dialect ≡ Printf → NeedsNoNames dialect names
-printf_needs_none dialect names e = subst (λ (d : Dialect). NeedsNoNames d names) (sym e) (λ template kinds values line prints. prints)
-
--- where there are no names, none is needed
-pub none_needs_none : (dialect : Dialect) (names : List (List ℕ)) → names ≡ [] → NeedsNoNames dialect names
-none_needs_none dialect names e = subst (λ (n : List (List ℕ)). NeedsNoNames dialect n) (sym e) (λ template kinds values line prints. prints)
-
--- the way to the lines of a template is that to its lines with names
-pub with_names : (format : List ℕ) (kinds : List Kind) (dialect : Dialect) (template : List ℕ) (names : List (List ℕ)) (found : Option FastWay) → NeedsNoNames dialect names
-    → IfSome found (IsWayOf format kinds (record { dialect = dialect; template = template; names = [] })) → IfSome found (IsWayOf format kinds (record { dialect = dialect; template = template; names = names }))
-with_names format kinds dialect template names (Some way) none is = record {
-  elements = is.elements;
-  spelled = is.spelled;
-  format_is = is.format_is;
-  kinds_are = is.kinds_are;
-  prints = λ kinds values line prints. none template kinds values line (is.prints kinds values line prints);
-}
-with_names format kinds dialect template names None none is = tt

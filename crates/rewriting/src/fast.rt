@@ -1,7 +1,7 @@
 // The fast way: rows that are read by their columns and printed by the template's pieces.
-ghost use Rattle.std.specs.Prelude.{◌≡◌, [], map, IfOk, IfSome, IsTrue, OnErr, false, string_bytes};
+ghost use Rattle.std.specs.Prelude.{◌≡◌, map, IfOk, IfSome, IsTrue, OnErr, false, string_bytes};
 ghost use Rattle.values.specs.Datum.{word_text};
-ghost use Rattle.rewriting.specs.Inner.Fast.{IsRowFormatOf, IsWayOf, IsWritten, NeedsNoNames};
+ghost use Rattle.rewriting.specs.Inner.Fast.{IsRowFormatOf, IsWayOf, IsWritten};
 
 use columns::{Columns, Token};
 use header_lines::{Fields, LineCause};
@@ -14,7 +14,6 @@ use sprintf::PrintfError;
 use sprintf::parser::parse_format_string;
 use std::alloc::Global;
 use std::marker::Model;
-use values::{Kind, Word};
 
 /// How the rows of a format are read by their columns, and how a template prints them by its pieces.
 #[derive(Drop)]
@@ -48,23 +47,31 @@ fn row_format(alloc: Global, format: &str) -> Result<Option<RowFormat>, NoMemory
 }
 
 impl Fast {
-    /// The fast way from rows of a printf format to lines of a template whose values have no names, or None where there is none.
+    /// The fast way from rows of a printf format, with these fields, to lines of a template, or None where there is none.
     pub(crate) fn new(
         alloc: Global,
+        fields: &Fields,
         format: &str,
-        kinds: &[Kind],
         dialect: Dialect,
         template: &str,
     ) -> Result<Option<Fast>, NoMemory>
-        ensures { IfOk result (λ found. IfSome found (IsWayOf format.now kinds.now (record { dialect = dialect; template = template.now; names = [] }))) }
+        ensures { IfOk result (λ found. IfSome found (IsWayOf format.now fields.now.kinds.items (record { dialect = dialect; template = template.now; names = map word_text fields.now.names.items }))) }
     {
         let Some(format) = row_format(alloc, format)? else {
             return Ok(None);
         };
-        let Some(columns) = Columns::new(alloc, &format, kinds)? else {
+        let Some(columns) = Columns::new(alloc, &format, &fields.kinds)? else {
             return Ok(None);
         };
-        let Some(pieces) = Pieces::new(alloc, dialect, template, format, kinds)? else {
+        let Some(pieces) = Pieces::new(
+            alloc,
+            dialect,
+            template,
+            &fields.names,
+            format,
+            &fields.kinds,
+        )?
+        else {
             return Ok(None);
         };
         Ok(Some(Fast { columns, pieces }))
@@ -91,32 +98,5 @@ impl Fast {
             Ok(()) => Ok(true),
             Err(_) => Err(NoMemory),
         }
-    }
-}
-
-/// Whether a template prints without these names what it prints with them: a printf format has no names.
-fn needs_no_names(dialect: Dialect, names: &[Word]) -> bool
-    ensures { IsTrue result → NeedsNoNames dialect (map word_text names.now) }
-{
-    match dialect {
-        Dialect::Printf => true,
-        Dialect::Strfmt | Dialect::Formatx => names.is_empty(),
-    }
-}
-
-/// The fast way from rows of these fields to lines of a template, where there is one.
-pub(crate) fn find_fast(
-    alloc: Global,
-    fields: &Fields,
-    format: &str,
-    dialect: Dialect,
-    template: &str,
-) -> Result<Option<Fast>, NoMemory>
-    ensures { IfOk result (λ found. IfSome found (IsWayOf format.now fields.now.kinds.items (record { dialect = dialect; template = template.now; names = map word_text fields.now.names.items }))) }
-{
-    if needs_no_names(dialect, &fields.names) {
-        Fast::new(alloc, format, &fields.kinds, dialect, template)
-    } else {
-        Ok(None)
     }
 }

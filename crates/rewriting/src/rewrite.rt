@@ -7,7 +7,7 @@ ghost use Rattle.rewriting.specs.Rules.{Stage, rewrite_rules, heading_next, afte
 ghost use Rattle.rewriting.specs.Inner.State.{stage_of, version_of, IsHeaderNext, IsSoundState};
 ghost use Rattle.rewriting.specs.Inner.Clear.{rewrite_clear};
 
-use crate::fast::find_fast;
+use crate::fast::Fast;
 use crate::rows::{Room, Rows, Source, read_source};
 use bumpalo::Bump;
 use header_lines::{
@@ -82,7 +82,7 @@ fn read_header<'a>(
         }
         State::Template(fields, source, dialect) => {
             let printer = read_template(alloc, texts, number, dialect, &fields.names, line)?;
-            match find_fast(alloc, &fields, source.text, dialect, line) {
+            match Fast::new(alloc, &fields, source.text, dialect, line) {
                 Ok(fast) => {
                     let rows = Rows {
                         source,

@@ -8,7 +8,6 @@ use Rattle.values.specs.Datum.{Datum}
 use Rattle.row_format.specs.Columns.{Columns, columns_of}
 use Rattle.row_format.specs.Laws.{IsText}
 use Rattle.row_format.specs.Row.{IsRow}
-use Rattle.printer.specs.declared.dialect.Dialect.{Dialect}
 use Rattle.printer.specs.Text.{Printing, Prints}
 
 -- The format and the kinds of the rows, and the template that prints their values.
@@ -24,21 +23,13 @@ pub record IsRowFormatOf (format : List ℕ) (columns : Columns) : Type 0 where
   pub text : IsText columns
   pub columns_are : columns ≡ columns_of elements
 
--- Where the one template has a text of values, the other has the same.
-abbrev pub PrintsAlike : Printing → Printing → Type 0
-PrintsAlike one other = (kinds : List Kind) (values : List Datum) (line : List ℕ) → Prints one kinds values (Ok line) → Prints other kinds values (Ok line)
-
--- The template prints without its names what it prints with them.
-abbrev pub NeedsNoNames : Dialect → List (List ℕ) → Type 0
-NeedsNoNames dialect names = (template : List ℕ) → PrintsAlike (record { dialect = dialect; template = template; names = [] }) (record { dialect = dialect; template = template; names = names })
-
 -- The way is from rows of the printf format over the kinds to lines of the template.
 pub record IsWayOf (format : List ℕ) (kinds : List Kind) (printing : Printing) (way : FastWay) : Type 0 where
   pub elements : List FormatElement
   pub spelled : IsFormat format elements
   pub format_is : way.format ≡ columns_of elements
   pub kinds_are : way.kinds ≡ kinds
-  pub prints : PrintsAlike way.printing printing
+  pub printing_is : way.printing ≡ printing
 
 -- The output has grown by what the template prints of the values of the row, and a line feed.
 pub record IsWritten (way : FastWay) (row old new : List ℕ) : Type 0 where

@@ -21,7 +21,7 @@ use Rattle.rewriting.specs.declared.rows.Source.{Source}
 use Rattle.rewriting.specs.declared.rows.Rows.{Rows as RowsOf}
 use Rattle.rewriting.specs.declared.rewrite.State.{State}
 use Rattle.rewriting.specs.declared.rewrite.State.TheVariants.{Heading, Format, Dialect, Template, Rows}
-use Rattle.rewriting.specs.Inner.Fast.{FastWay, PrintsAlike}
+use Rattle.rewriting.specs.Inner.Fast.{FastWay}
 use Rattle.rewriting.specs.Rewrite.{Layout}
 use Rattle.rewriting.specs.Rules.{Stage, heading_next, format_next, dialect_next, template_next, rows_next}
 
@@ -33,7 +33,7 @@ layout_of version source printing = record { version = version; kinds = source.p
 pub record IsWayTo (source : Source) (printing : Printing) (way : FastWay) : Type 0 where
   pub format : way.format ≡ source.plan.format
   pub kinds : way.kinds ≡ source.plan.kinds
-  pub prints : PrintsAlike way.printing printing
+  pub printing_is : way.printing ≡ printing
 
 -- the stage that the state is at
 abbrev pub stage_of : State → Stage

@@ -1,5 +1,6 @@
-use Rattle.std.proofs.Common.{◌≡◌, ◌∙◌, ℕ, List, [], sym, ap, subst}
+use Rattle.std.proofs.Common.{◌≡◌, ◌∙◌, ℕ, List, map, sym, ap, subst}
 use Rattle.values.specs.declared.kind.Kind.{Kind}
+use Rattle.values.specs.Datum.{word_text}
 use Rattle.row_format.specs.Columns.{Columns}
 use Rattle.row_format.specs.Laws.{IsText}
 use Rattle.columns.specs.Rows.{RowColumns}
@@ -24,8 +25,8 @@ agree text format kinds printing columns pieces is e f = (
 
 pub invariant_of-result : goal.invariant_of-result
 invariant_of-result c =
-    let printing : Printing = record { dialect = c.args.dialect; template = c.args.template.now; names = [] } in
+    let printing : Printing = record { dialect = c.args.dialect; template = c.args.template.now; names = map word_text c.args.fields.now.names.items } in
     let is : IsRowFormatOf c.args.format.now c.in-Some.format = rw c.in-Some.is at c.in_ok-format.ensures in
-    let columns : c.in-Some-2.columns ≡ columns_by c.in-Some.format c.args.kinds.now = rw c.in-Some-2.is at c.in_ok-columns.ensures in
-    let pieces : c.in-Some-3.pieces ≡ pieces_by printing c.in-Some.format c.args.kinds.now = rw c.in-Some-3.is at c.in_ok-pieces.ensures in
-    agree c.args.format.now c.in-Some.format c.args.kinds.now printing c.in-Some-2.columns c.in-Some-3.pieces is columns pieces
+    let columns : c.in-Some-2.columns ≡ columns_by c.in-Some.format c.args.fields.now.kinds.items = rw c.in-Some-2.is at c.in_ok-columns.ensures in
+    let pieces : c.in-Some-3.pieces ≡ pieces_by printing c.in-Some.format c.args.fields.now.kinds.items = rw c.in-Some-3.is at c.in_ok-pieces.ensures in
+    agree c.args.format.now c.in-Some.format c.args.fields.now.kinds.items printing c.in-Some-2.columns c.in-Some-3.pieces is columns pieces
