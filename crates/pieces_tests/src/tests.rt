@@ -7,9 +7,10 @@ use row_format::RowFormat;
 use sprintf::parser::parse_format_string;
 use std::alloc::Global;
 use std::test::Fail;
-use values::{Kind, parse_kinds};
+use values::{Kind, Word, parse_kinds};
 
-// A dialect, kinds, a format, a template, a row, and the text; `none` where the template has no pieces.
+// A dialect, kinds, a format, a template, a row, and the text; `none` where the template has no pieces. The first two values are
+// named `first` and `1`.
 const ROWS: &str = "\
     printf\tu64 u64\t%d-%u\t%u %d\t1-20\t1 20\n\
     printf\tu64 u64\t%d-%u\t%u\t1-20\tnone\n\
@@ -60,6 +61,9 @@ const ROWS: &str = "\
     strfmt\tu8\t%d\t{1}\t7\tnone\n\
     strfmt\tu8\t%d\t{0:>3}\t7\tnone\n\
     strfmt\tu8\t%d\t{n}\t7\tnone\n\
+    strfmt\tu8 word\t%d %s\t{1}{first}{0}\t7 w\tw77\n\
+    strfmt\tu8 word\t%d %s\t{first:>3}\t7 w\tnone\n\
+    strfmt\tu8\t%d\t{}\t7\tnone\n\
     strfmt\tu8\t%d\t{00}\t7\tnone\n\
     strfmt\tu8\t%d\t{0\t7\tnone\n\
     formatx\tu32 i64 word\t%08x %+d %s\t{2} {0} {1}\t0000002a -3 w1\tw1 42 -3\n\
@@ -73,6 +77,8 @@ const ROWS: &str = "\
     formatx\tu8\t%d\t{:?}\t7\tnone\n\
     formatx\tu8\t%d\t{1}\t7\tnone\n\
     formatx\tu8\t%d\t{n}\t7\tnone\n\
+    formatx\tu8 word\t%d %s\t{first}{1}{}{first}\t7 w\t7w77\n\
+    formatx\tu8 word\t%d %s\t{first:?}\t7 w\tnone\n\
     formatx\tu8\t%d\t{\t7\tnone\n\
     formatx\tu16\t%o\t{0}{0}\t177777\t6553565535\n\
 ";
@@ -106,10 +112,11 @@ fn print_row(
     template: &str,
     row: &str,
 ) -> Result<Printed, NoMemory> {
+    let names = [Word::new(alloc, "first")?, Word::new(alloc, "1")?];
     let Some(columns) = Columns::new(alloc, &format, kinds)? else {
         return Ok(Printed::NoColumns);
     };
-    let Some(pieces) = Pieces::new(alloc, dialect, template, format, kinds)? else {
+    let Some(pieces) = Pieces::new(alloc, dialect, template, &names, format, kinds)? else {
         return Ok(Printed::NoPieces);
     };
     let mut tokens = Vec::new(alloc);

@@ -1,4 +1,4 @@
-use formatx::{Error, FormatValue, Template};
+use formatx::{Error, FormatValue, Names, Template};
 use std::alloc::Global;
 use std::test::Fail;
 
@@ -13,9 +13,10 @@ fn greeting(alloc: Global, who: &str) -> Result<String, Error> {
 /// Many rows by one template, each appended to the same text.
 fn report(alloc: Global, rows: &[[u32; 2]]) -> Result<String, Error> {
     let template = Template::new(alloc, "{0:>5} {1:#x?}|")?;
+    let names = Names::new(alloc);
     let mut out = String::new(alloc);
     for row in rows {
-        template.render_into(alloc, &mut out, row, &[], true)?;
+        template.render_into(alloc, &mut out, row, &names, true)?;
     }
     Ok(out)
 }
@@ -27,7 +28,7 @@ fn mixed(alloc: Global) -> Result<String, Fail> {
     values.push(Box::new(alloc, 'x')?)?;
     values.push(Box::new(alloc, 255u8)?)?;
     let mut out = String::new(alloc);
-    template.render_into(alloc, &mut out, &values, &[], true)?;
+    template.render_into(alloc, &mut out, &values, &Names::new(alloc), true)?;
     Ok(out)
 }
 

@@ -3,7 +3,7 @@ ghost use Rattle.formatx.specs.Scene.{scene_over};
 ghost use Rattle.formatx.specs.Text.{AppendsPrinted};
 ghost use Rattle.formatx.specs.Values.{integer_meaning};
 
-use formatx::{Error, Template};
+use formatx::{Error, Names, Template};
 use std::alloc::Global;
 use std::test::Fail;
 
@@ -17,7 +17,7 @@ fn push_number(
     ensures ok { OnOk result (AppendsPrinted (scene_over (λ n. integer_meaning (pos n) n) template.now (number ∷ []) [] true) (string_bytes out.old) (string_bytes out.new)) }
     ensures unchanged { OnErr result (string_bytes out.new ≡ string_bytes out.old) }
 {
-    template.render_into(alloc, out, &[number], &[], true)
+    template.render_into(alloc, out, &[number], &Names::new(alloc), true)
 }
 
 pub fn show(rt: &HostRuntime) -> Result<(), Fail> {

@@ -1,4 +1,4 @@
-use formatx::Template;
+use formatx::{Names, Template};
 use sprintf::vsprintf;
 use std::alloc::Global;
 use std::collections::HashMap;
@@ -25,7 +25,7 @@ fn in_braces(alloc: Global, value: Value) -> Result<String, Fail> {
 fn by_position(alloc: Global, values: &[Value]) -> Result<String, formatx::Error> {
     let template = Template::new(alloc, "{1} {0:?}")?;
     let mut out = String::new(alloc);
-    template.render_into(alloc, &mut out, values, &[], true)?;
+    template.render_into(alloc, &mut out, values, &Names::new(alloc), true)?;
     Ok(out)
 }
 
