@@ -14,7 +14,7 @@ use Rattle.std.proofs.lemmas.Int.Digits.{first_digits_of}
 use Rattle.std.proofs.lemmas.Str.Parse.{IsNumeralModel, numerals_by_value, tells_all_ascii_digits, without_leading_plus_none}
 use Rattle.numerals.specs.Numeral.{numeral}
 use Rattle.numerals.specs.Laws.{NumeralIsStd}
-use Rattle.formatx.specs.Words.{after, all_digits, usize_of}
+use Rattle.formatx.specs.Words.{after, usize_of}
 use Rattle.translation.proofs.Numerals.{numeral_first}
 
 own : IsNumeralModel (λ ds. all_ascii_digits ds ≡ true) (digits_value 10)
@@ -81,14 +81,6 @@ run_after p xs rest h all stop = ap (λ (n : ℕ). drop n (xs ++ rest)) (run_len
 pub run_taken : (p : ℕ → Bool) (xs rest : List ℕ) → ((x : ℕ) → is_ascii_digit x ≡ true → p x ≡ true) → all_ascii_digits xs ≡ true → p (slice_index rest 0) ≡ false → take (prefix_len p (xs ++ rest)) (xs ++ rest) ≡ xs
 run_taken p xs rest h all stop = ap (λ (n : ℕ). take n (xs ++ rest)) (run_length p xs rest h all stop) ∙ take-append_seam xs rest
 
-digits_pass : (ds : List ℕ) → all_ascii_digits ds ≡ true → all_digits ds ≡ true
-digits_pass [] h = refl
-digits_pass (d ∷ ds) h =
-    let here : is_ascii_digit d ≡ true = grind (arith, nat_tests) in
-    let later : all_ascii_digits ds ≡ true = grind (arith, nat_tests) in
-    let ih = digits_pass ds later in
-    grind (arith, nat_tests)
-
 pub lt_true : (a b : ℕ) → a < b → nat_lt a b ≡ true
 lt_true a b h = grind (arith, nat_tests)
 
@@ -100,4 +92,4 @@ reads_usize n ds w =
     let plain : without_leading_plus ds ≡ ds = without_leading_plus_none ds (λ e. let bad : is_ascii_digit 43 ≡ true = subst (λ (b : ℕ). is_ascii_digit b ≡ true) (sym at ∙ e) d in absurd cc) in
     let some : nat_lt 0 (length ds) ≡ true = lt_true 0 (length ds) (rw w.is (omega arith)) in
     let low : nat_lt n (2 ^ 64) ≡ true = lt_true n (2 ^ 64) (let small = w.small in omega arith) in
-    rw (plain, some, digits_pass ds w.digits, w.value, low) refl
+    rw (plain, some, w.digits, w.value, low) refl
