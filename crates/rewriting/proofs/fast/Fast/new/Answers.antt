@@ -27,6 +27,6 @@ pub invariant_of-result : goal.invariant_of-result
 invariant_of-result c =
     let printing : Printing = record { dialect = c.args.dialect; template = c.args.template.now; names = map word_text c.args.fields.now.names.items } in
     let is : IsRowFormatOf c.args.format.now c.in-Some.format = rw c.in-Some.is at c.in_ok-format.ensures in
-    let columns : c.in-Some-2.columns ≡ columns_by c.in-Some.format c.args.fields.now.kinds.items = rw c.in-Some-2.is at c.in_ok-columns.ensures in
-    let pieces : c.in-Some-3.pieces ≡ pieces_by printing c.in-Some.format c.args.fields.now.kinds.items = rw c.in-Some-3.is at c.in_ok-pieces.ensures in
+    let columns : c.in-Some-2.columns ≡ columns_by c.in-Some.format c.args.fields.now.kinds.items = rw (c.in-Some-2.is, c.deref.ensures.value) at c.in_ok-columns.ensures in
+    let pieces : c.in-Some-3.pieces ≡ pieces_by printing c.in-Some.format c.args.fields.now.kinds.items = rw (c.in-Some-3.is, c.deref-2.ensures.value, c.deref-3.ensures.value) at c.in_ok-pieces.ensures in
     agree c.args.format.now c.in-Some.format c.args.fields.now.kinds.items printing c.in-Some-2.columns c.in-Some-3.pieces is columns pieces
