@@ -1,6 +1,6 @@
 -- A walk whose calls fill each pattern by the meaning of its key prints the text.
 use Rattle.std.proofs.Common.{◌≡◌, ◌⊎◌, inl, inr, ℕ, List, [], ◌∷◌, refl, sym, ap, subst, Bool, false, Option, Some, None, Result, Ok, Err}
-use Rattle.std.specs.Prelude.{IfOk, IfErr, IsUtf8}
+use Rattle.std.specs.Prelude.{IfOk, IfErr, IsErrAnd, IsOkAnd, IsUtf8, ◌++◌}
 use Rattle.std.specs.Borrow.{MutBor}
 use Rattle.std.specs.Fn.{Mut, CalledAtMut}
 use Rattle.std.specs.HashMap.{HashMap, get_by}
@@ -12,9 +12,14 @@ use Rattle.strfmt.specs.Fault.{Fault, Outcome, IsFault, fault_of}
 use Rattle.strfmt.specs.Spec.{View}
 use Rattle.strfmt.specs.Grammar.{Piece, ordinary, escape, pattern, Break, cause_of}
 use Rattle.strfmt.specs.Text.{Meaning, IsPrinted, filled_by, then_next, joined}
-use Rattle.strfmt.specs.Values.{AddsText, Displays}
-use Rattle.strfmt.specs.Walk.{Walked, walked_after, IsRefused, blank, GoesOn, Walks, IsWalk}
+use Rattle.strfmt.specs.Values.{Displays}
+use Rattle.strfmt.specs.Walk.{Walked, GoesOn, Walks, IsWalk}
 use Rattle.strfmt.proofs.CutUnique.{prints_some}
+use Rattle.strfmt.proofs.SegmentLemmas.{walked_after}
+
+-- the formatter without text
+abbrev blank : View → View
+blank view = record view { text = [] }
 
 abbrev Answer : Type 0
 Answer = Result (Unit {0}) FmtError
@@ -28,7 +33,7 @@ gives_after front outcome (Ok text) h = ap (λ (o : Outcome). then_next (Ok fron
 gives_after front outcome (Err error) (inl it) = inl (it.0, ap (λ (o : Outcome). then_next (Ok front) o) it.1, it.2)
 gives_after front outcome (Err error) (inr memory) = inr memory
 
-refused_gives : (fault : Fault) (answer : Walked) → IsRefused answer fault → Gives (Err fault) answer
+refused_gives : (fault : Fault) (answer : Walked) → IsErrAnd answer (λ error. IsFault error fault) → Gives (Err fault) answer
 refused_gives fault (Ok text) h = absurd h
 refused_gives fault (Err error) h = inl (fault, refl, h)
 
@@ -36,7 +41,7 @@ error_gives : (outcome tail : Outcome) (error : FmtError) → Gives outcome (Err
 error_gives outcome tail error (inl it) = inl (it.0, ap (λ (o : Outcome). then_next o tail) it.1, it.2)
 error_gives outcome tail error (inr memory) = inr memory
 
-text_gives : (outcome tail : Outcome) (view left : View) (more : Walked) → AddsText outcome (blank view) left → Gives tail more → Gives (then_next outcome tail) (walked_after left.text more)
+text_gives : (outcome tail : Outcome) (view left : View) (more : Walked) → IsOkAnd outcome (λ (text : List ℕ). left.text ≡ (blank view).text ++ text) → Gives tail more → Gives (then_next outcome tail) (walked_after left.text more)
 text_gives (Ok text) tail view left more added h = subst (λ (bs : List ℕ). Gives (then_next (Ok text) tail) (walked_after bs more)) (sym added) (gives_after text tail more h)
 text_gives (Err fault) tail view left more added h = absurd added
 
@@ -55,7 +60,7 @@ module _ {F : Type 0} (g : Mut F (MutBor View × Unit {0}) (Answer × (MutBor Vi
       (error_gives (filled_by (meanings view.key) view) tail error (subst P (filled_blank (meanings view.key) view) h.1))
   call_prints view left (Ok done) f' last rest tail answer later h goes =
       let P : F → Type 0 = λ s. rest s goes.0 last in
-      let Q : Outcome → Type 0 = λ o. AddsText o (blank view) left in
+      let Q : Outcome → Type 0 = λ o. IsOkAnd o (λ (text : List ℕ). left.text ≡ (blank view).text ++ text) in
       subst (Gives (then_next (filled_by (meanings view.key) view) tail)) (sym goes.2)
       (text_gives (filled_by (meanings view.key) view) tail view left goes.0 (subst Q (filled_blank (meanings view.key) view) h.1) (later goes.0 (subst P h.0 goes.1)))
 

@@ -17,7 +17,8 @@ use Rattle.strfmt.specs.declared.template.Found.{Found}
 use Rattle.strfmt.specs.declared.template.Found.TheVariants as Of
 use Rattle.strfmt.specs.Grammar.Pattern.{IsRead}
 use Rattle.strfmt.specs.Grammar.{Piece, ordinary, Break, refused, cause_of, IsBrace, BeginsWithPattern, IsCut}
-use Rattle.strfmt.specs.Walk.{Walked, walked_after, Walks, IsWalk}
+use Rattle.strfmt.specs.Text.{then_next}
+use Rattle.strfmt.specs.Walk.{Walked, Walks, IsWalk}
 use Rattle.strfmt.specs.Inner.Cutting.{StopsBy, brace_byte}
 use Rattle.strfmt.specs.Inner.Reading.{IsFaultOrMemory}
 use Rattle.strfmt.specs.Inner.Segments.{pieces_of, all_pieces, IsFront, IsFound, IsFoundPattern, IsMade, FillsOne, FillsAll, WalksOver}
@@ -89,6 +90,10 @@ cutting_end text segments rest it e = (None, refl, stopped text segments rest No
 
 pub cutting_wrong : (text : List ℕ) (segments : List Segment) (rest : List ℕ) (cause : Cause) → Cutting text segments rest → StopsBy cause rest → IsMade segments (Some cause) text
 cutting_wrong text segments rest cause it s = (Some s.0, ap (λ (c : Cause). Some c) s.2, stopped text segments rest (Some s.0) it s.1)
+
+-- the answer has a text before it
+abbrev pub walked_after : List ℕ → Walked → Walked
+walked_after front answer = then_next (Ok front) answer
 
 pub walked_after-append : (xs ys : List ℕ) (answer : Walked) → walked_after xs (walked_after ys answer) ≡ walked_after (xs ++ ys) answer
 walked_after-append xs ys (Ok text) = ap (λ (bs : List ℕ). Ok bs) (sym (append_assoc xs ys text))

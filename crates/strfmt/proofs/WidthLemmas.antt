@@ -10,7 +10,7 @@ use Rattle.strfmt.specs.declared.types.Alignment.{Alignment}
 use Rattle.strfmt.specs.declared.types.Alignment.TheVariants.{Unspecified, Left, Center, Right, Equal}
 use Rattle.strfmt.specs.Fault.{Outcome, unless, first_failure}
 use Rattle.strfmt.specs.Field.{shared, sides, laid, padded, cut, Integer, plus_of, prefix_of, digits_of, text_field, text_checks, integer_field, integer_checks}
-use Rattle.strfmt.specs.Spec.{Spec, aligned, width_of, is_plus}
+use Rattle.strfmt.specs.Spec.{Spec, aligned, is_plus}
 use Rattle.strfmt.specs.Laws.{HasWidth}
 
 -- n fills are shared out between the sides
@@ -36,11 +36,11 @@ whole front cs l r fill a =
     encodes-append (front ++ replicate l fill) cs ∙ ap (λ (bs : List ℕ). bs ++ encode_utf8_all cs) one in
     sym (encodes-append (front ++ replicate l fill ++ cs) (replicate r fill) ∙ ap (λ (bs : List ℕ). bs ++ fills r fill) two)
 
-laid_width : (spec : Spec) (front cs : List ℕ) (s : Option (ℕ × ℕ)) (field : List ℕ) → Ascii front → sides spec.align (width_of spec - length cs) ≡ s → laid front s spec.fill cs ≡ Ok field → HasWidth spec field
+laid_width : (spec : Spec) (front cs : List ℕ) (s : Option (ℕ × ℕ)) (field : List ℕ) → Ascii front → sides spec.align (unwrap_or spec.width 0 - length cs) ≡ s → laid front s spec.fill cs ≡ Ok field → HasWidth spec field
 laid_width spec front cs None field a e h = cc
 laid_width spec front cs (Some s) field a e h =
     let text : front ++ fills s.0 spec.fill ++ encode_utf8_all cs ++ fills s.1 spec.fill ≡ field = cc in
-    let n : ℕ = width_of spec - length cs in
+    let n : ℕ = unwrap_or spec.width 0 - length cs in
     let enough : n ≤ s.0 + s.1 = sides_at spec.align n s (eqb_tells n 0) e in
     let l : List ℕ = replicate s.0 spec.fill in
     let r : List ℕ = replicate s.1 spec.fill in (
@@ -58,7 +58,7 @@ laid_width spec front cs (Some s) field a e h =
     )
 
 padded_width : (spec : Spec) (front cs field : List ℕ) → Ascii front → padded spec front cs ≡ Ok field → HasWidth spec field
-padded_width spec front cs field a h = laid_width spec front cs (sides spec.align (width_of spec - length cs)) field a refl h
+padded_width spec front cs field a h = laid_width spec front cs (sides spec.align (unwrap_or spec.width 0 - length cs)) field a refl h
 
 unless_width : (spec : Spec) (cause : Option Cause) (outcome : Outcome) (field : List ℕ) → ((text : List ℕ) → outcome ≡ Ok text → HasWidth spec text) → unless cause outcome ≡ Ok field → HasWidth spec field
 unless_width spec None outcome field wide h = wide field h

@@ -1,8 +1,8 @@
 -- Why a text, a pattern or a value is refused, with the messages.
-use Rattle.std.specs.Prelude.{◌≡◌, ℕ, List, ◌++◌, Bool, Option, Some, None, Result, Err, [], ◌∷◌, if◌then◌else◌, ◌==◌, ◌||◌, string_bytes, codes, encode_utf8, false}
-use Rattle.std.specs.Char.{is_ascii_control}
+use Rattle.std.specs.Prelude.{◌≡◌, ℕ, List, ◌++◌, Bool, Option, Some, None, Result, Err, [], ◌∷◌, if◌then◌else◌, string_bytes, codes, encode_utf8}
+use Rattle.std.specs.Char.{is_ascii}
+use Rattle.std.specs.Fmt.{debug_escape}
 use Rattle.std.specs.Str.{byte}
-use Rattle.numerals.specs.Numeral.{numeral}
 use Rattle.strfmt.specs.declared.types.FmtError.{FmtError}
 use Rattle.strfmt.specs.declared.types.FmtError.TheVariants.{Invalid, KeyError, TypeError, NoMemory}
 use Rattle.strfmt.specs.declared.cause.Cause.{Cause}
@@ -21,16 +21,9 @@ IsFault (KeyError message) fault = fault ≡ key_error (string_bytes message)
 IsFault (TypeError message) fault = fault ≡ type_error (string_bytes message)
 IsFault NoMemory fault = ⊥
 
--- The debug text of an ASCII character, without its quotes: a control character stands as its escape.
+-- The debug text of a character, without its quotes; past ASCII it is the character.
 abbrev pub escaped : ℕ → List ℕ
-escaped c =
-    if c == byte "'" || c == byte "\\" then byte "\\" ∷ c ∷ []
-    else (if c == 0 then codes "\\0"
-    else (if c == 9 then codes "\\t"
-    else (if c == 13 then codes "\\r"
-    else (if c == 10 then codes "\\n"
-    else (if is_ascii_control c then codes "\\u{" ++ numeral 16 false c ++ codes "}"
-    else encode_utf8 c)))))
+escaped c = if is_ascii c then debug_escape (byte "'") c else encode_utf8 c
 
 -- Each cause has its kind and its message.
 abbrev pub fault_of : Cause → Fault

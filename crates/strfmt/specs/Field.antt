@@ -9,7 +9,7 @@ use Rattle.strfmt.specs.declared.types.Alignment.TheVariants.{Unspecified, Left,
 use Rattle.strfmt.specs.declared.types.Sign.{Sign}
 use Rattle.strfmt.specs.declared.cause.Cause.TheVariants.{NotOfIntegers, PrecisionOfInteger, CommaOfInteger, ZeroFillOfInteger, AlternateWithoutType, NotOfTexts, AlternateOfText, CommaOfText, SignOfText, PaddingAtEqual}
 use Rattle.strfmt.specs.Fault.{fault_of, Outcome, Check, first_failure, unless}
-use Rattle.strfmt.specs.Spec.{Spec, aligned, width_of, is_plus, is_unspecified, is_integer_type}
+use Rattle.strfmt.specs.Spec.{Spec, aligned, is_plus, is_unspecified, is_none_or_in}
 
 -- n fills stand on the left and on the right of a text; at `Equal` there is no place for any.
 abbrev pub shared : Alignment → ℕ → Option (ℕ × ℕ)
@@ -30,7 +30,7 @@ laid front (Some sides) fill cs = Ok (front ++ fills sides.0 fill ++ encode_utf8
 
 -- The characters are filled up to the width; the front doesn't count for it.
 abbrev pub padded : Spec → List ℕ → List ℕ → Outcome
-padded spec front cs = laid front (sides spec.align (width_of spec - length cs)) spec.fill cs
+padded spec front cs = laid front (sides spec.align (unwrap_or spec.width 0 - length cs)) spec.fill cs
 
 -- The precision leaves so many characters of a text.
 abbrev pub cut : Option ℕ → List ℕ → List ℕ
@@ -41,15 +41,10 @@ cut (Some precision) cs = take precision cs
 abbrev pub unchecked_field : Spec → List ℕ → Outcome
 unchecked_field spec text = padded spec [] (cut spec.precision (chars text))
 
--- A text has no type or the type `s`.
-abbrev pub is_text_type : Option ℕ → Bool
-is_text_type None = true
-is_text_type (Some c) = c == byte "s"
-
 -- These checks are made for a text, in this order.
 abbrev pub text_checks : Spec → List Check
 text_checks spec =
-    record { fails = not (is_text_type spec.ty); cause = NotOfTexts (unwrap_or spec.ty 0) }
+    record { fails = not (is_none_or_in (codes "s") spec.ty); cause = NotOfTexts (unwrap_or spec.ty 0) }
     ∷ record { fails = spec.alternate; cause = AlternateOfText }
     ∷ record { fails = spec.thousands; cause = CommaOfText }
     ∷ record { fails = not (is_unspecified spec.sign); cause = SignOfText }
@@ -81,7 +76,7 @@ is_right align = false
 -- These checks are made for an integer, in this order.
 abbrev pub integer_checks : Spec → List Check
 integer_checks spec =
-    record { fails = not (is_integer_type spec.ty); cause = NotOfIntegers (unwrap_or spec.ty 0) }
+    record { fails = not (is_none_or_in (codes "boxX") spec.ty); cause = NotOfIntegers (unwrap_or spec.ty 0) }
     ∷ record { fails = is_some spec.precision; cause = PrecisionOfInteger }
     ∷ record { fails = spec.thousands; cause = CommaOfInteger }
     ∷ record { fails = spec.fill == byte "0" && is_right spec.align; cause = ZeroFillOfInteger }

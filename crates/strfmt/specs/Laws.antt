@@ -1,15 +1,15 @@
 -- Laws of what the crate prints.
-use Rattle.std.specs.Prelude.{◌≡◌, ◌≤◌, ℕ, List, Option, Result, Ok, length, encode_utf8_all, IsUtf8}
+use Rattle.std.specs.Prelude.{◌≡◌, ◌≤◌, ℕ, List, Option, Result, Ok, unwrap_or, length, encode_utf8_all, IsUtf8}
 use Rattle.strfmt.specs.declared.cause.Cause.{Cause}
 use Rattle.strfmt.specs.Fault.{Outcome}
 use Rattle.strfmt.specs.Field.{Integer, text_field, integer_field}
 use Rattle.strfmt.specs.Grammar.Pattern.{IsRead}
-use Rattle.strfmt.specs.Spec.{Spec, View, width_of}
+use Rattle.strfmt.specs.Spec.{Spec, View}
 use Rattle.strfmt.specs.Text.{Meaning, Prints}
 
 -- The text has at least as many characters as the width says.
 abbrev pub HasWidth : Spec → List ℕ → Type 0
-HasWidth spec text = (cs : List ℕ) × (text ≡ encode_utf8_all cs) × (width_of spec ≤ length cs)
+HasWidth spec text = (cs : List ℕ) × (text ≡ encode_utf8_all cs) × (unwrap_or spec.width 0 ≤ length cs)
 
 -- A field that is printed has at least its width.
 pub record FillsWidth : Type 0 where

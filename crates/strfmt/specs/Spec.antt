@@ -1,6 +1,6 @@
 -- What callers see of a formatter.
-use Rattle.std.specs.Prelude.{◌≡◌, ◌++◌, ℕ, List, Option, Some, None, Bool, true, false, ◌==◌, ◌||◌, unwrap_or, Ok, Err, Result}
-use Rattle.std.specs.Str.{byte}
+use Rattle.std.specs.Prelude.{◌≡◌, ◌++◌, ℕ, List, Option, Some, None, Bool, true, false, ◌==◌, Ok, Err, Result, IsOkAnd}
+use Rattle.std.specs.List.{list_any}
 use Rattle.numerals.specs.Answer.{IsAnswerBy}
 use Rattle.strfmt.specs.declared.types.Alignment.{Alignment}
 use Rattle.strfmt.specs.declared.types.Alignment.TheVariants.{Unspecified}
@@ -41,14 +41,9 @@ aligned default spec = record spec { align = align_or spec.align default }
 abbrev pub view_aligned : Alignment → View → View
 view_aligned default view = record view { spec = aligned default view.spec }
 
--- The new formatter is the old one with this text at its end.
-abbrev pub IsAppended : Outcome → View → View → Type 0
-IsAppended (Ok text) old new = new ≡ record old { text = old.text ++ text }
-IsAppended (Err fault) old new = ⊥
-
 -- A call appends this: the text is at the formatter's end; or the fault, or want of memory, is the answer, and the formatter is as before.
 abbrev pub Appends : Outcome → View → Result (Unit {0}) FmtError → View → Type 0
-Appends outcome old (Ok done) new = IsAppended outcome old new
+Appends outcome old (Ok done) new = IsOkAnd outcome (λ text. new ≡ record old { text = old.text ++ text })
 Appends outcome old (Err error) new = IsAnswerBy (λ (text : List ℕ). text) IsFault NoMemory outcome (Err error) × (new ≡ old)
 
 -- The sign is a plus.
@@ -66,16 +61,7 @@ abbrev pub is_unspecified : Sign → Bool
 is_unspecified NoSign = true
 is_unspecified sign = false
 
--- There is no type, or it is one of integers.
-abbrev pub is_integer_type : Option ℕ → Bool
-is_integer_type None = true
-is_integer_type (Some c) = c == byte "b" || (c == byte "o" || (c == byte "x" || c == byte "X"))
-
--- There is no type, or it is one of floating-point numbers.
-abbrev pub is_float_type : Option ℕ → Bool
-is_float_type None = true
-is_float_type (Some c) = c == byte "f" || (c == byte "e" || c == byte "E")
-
--- A field has at least so many characters.
-abbrev pub width_of : Spec → ℕ
-width_of spec = unwrap_or spec.width 0
+-- There is no type, or it is one of these.
+abbrev pub is_none_or_in : List ℕ → Option ℕ → Bool
+is_none_or_in types None = true
+is_none_or_in types (Some c) = list_any (λ t. t == c) types

@@ -16,11 +16,11 @@ abbrev pub filled_by : Option Meaning → View → Outcome
 filled_by None view = Err (no_value view.key)
 filled_by (Some meaning) view = meaning view.spec
 
--- One outcome after the other: a fault in either is the whole outcome, the left one's first.
-abbrev pub then_next : Outcome → Outcome → Outcome
+-- One text after the other: an error in either is the whole answer, the left one's first.
+abbrev pub then_next : {E : Type 0} → Result (List ℕ) E → Result (List ℕ) E → Result (List ℕ) E
 then_next (Ok text) (Ok next) = Ok (text ++ next)
-then_next (Ok text) (Err fault) = Err fault
-then_next (Err fault) next = Err fault
+then_next (Ok text) (Err error) = Err error
+then_next (Err error) next = Err error
 
 -- The pieces print their texts one after the other, or the first fault from the left.
 abbrev pub joined : (List ℕ → Option Meaning) → List Piece → Option Break → Outcome

@@ -1,5 +1,5 @@
 -- The values of a map as the meanings of keys.
-use Rattle.std.specs.Prelude.{◌≡◌, ◌++◌, ℕ, List, Bool, Option, Result, Ok, Err, option_map}
+use Rattle.std.specs.Prelude.{◌≡◌, ◌++◌, ℕ, List, Bool, Option, Result, Ok, Err, IsOkAnd, option_map}
 use Rattle.std.specs.HashMap.{HashMap, get_by}
 use Rattle.numerals.specs.Answer.{IsAnswerBy}
 use Rattle.strfmt.specs.declared.types.FmtError.{FmtError}
@@ -8,14 +8,9 @@ use Rattle.strfmt.specs.Fault.{IsFault, Outcome}
 use Rattle.strfmt.specs.Spec.{View}
 use Rattle.strfmt.specs.Text.{Meaning}
 
--- The new formatter's text is the old one's with this text at its end.
-abbrev pub AddsText : Outcome → View → View → Type 0
-AddsText (Ok text) old new = new.text ≡ old.text ++ text
-AddsText (Err fault) old new = ⊥
-
 -- A call displays this: its text is added; or its fault, or want of memory, is the answer, and nothing is said of the formatter.
 abbrev pub Displays : Outcome → View → Result (Unit {0}) FmtError → View → Type 0
-Displays outcome old (Ok done) new = AddsText outcome old new
+Displays outcome old (Ok done) new = IsOkAnd outcome (λ text. new.text ≡ old.text ++ text)
 Displays outcome old (Err error) new = IsAnswerBy (λ (text : List ℕ). text) IsFault NoMemory outcome (Err error)
 
 -- A key's text means what the map's value means at the key that it spells, if there is one.

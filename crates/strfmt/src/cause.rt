@@ -3,7 +3,7 @@
 ghost use Rattle.std.specs.Prelude.{◌≡◌, ◌++◌, false, IfOk, codes, encode_utf8, string_bytes};
 ghost use Rattle.numerals.specs.Numeral.{numeral};
 ghost use Rattle.strfmt.specs.Fault.{escaped, fault_of, no_value, invalid, type_error, key_error};
-ghost use Rattle.strfmt.specs.Inner.Reading.{IsFaultOrMemory};
+ghost use Rattle.strfmt.specs.Inner.Reading.{IsFaultOrMemory, escaped_by_cases};
 
 use crate::FmtError;
 use numerals::{Radix, push_digits};
@@ -107,7 +107,7 @@ fn control_message(alloc: Global, ty: char) -> Result<String, AllocError>
 }
 
 fn bad_type_message(alloc: Global, ty: char) -> Result<String, AllocError>
-    ensures { IfOk result (λ message. string_bytes message ≡ codes "Invalid type specifier: '" ++ escaped ty ++ codes "'") }
+    ensures { IfOk result (λ message. string_bytes message ≡ codes "Invalid type specifier: '" ++ escaped_by_cases ty ++ codes "'") }
 {
     match ty {
         '\'' | '\\' => format!(in alloc; "Invalid type specifier: '\\{ty}'"),

@@ -3,7 +3,7 @@
 ghost use Rattle.std.specs.Prelude.{◌≡◌, ◌++◌, ◌∷◌, [], codes};
 ghost use Rattle.strfmt.specs.Fault.{first_failure};
 ghost use Rattle.strfmt.specs.Grammar.Pattern.{IsRead, Reads, checks_of, first_cause, is_too_large, key_of, spec_of, specification_of, type_checks};
-ghost use Rattle.strfmt.specs.Spec.{Appends, is_float_type, is_integer_type, is_minus, is_plus, view_aligned};
+ghost use Rattle.strfmt.specs.Spec.{Appends, is_minus, is_none_or_in, is_plus, view_aligned};
 
 use crate::cause::Cause;
 use crate::parts::{self, Parts};
@@ -277,14 +277,14 @@ impl<'a> Formatter<'a> {
 
     /// Whether there is no type, or one of an integer.
     pub fn is_int_type(&self) -> bool
-        ensures { result ≡ is_integer_type self.now.spec.ty }
+        ensures { result ≡ is_none_or_in (codes "boxX") self.now.spec.ty }
     {
         matches!(self.ty, None | Some('b' | 'o' | 'x' | 'X'))
     }
 
     /// Whether there is no type, or one of a floating-point number.
     pub fn is_float_type(&self) -> bool
-        ensures { result ≡ is_float_type self.now.spec.ty }
+        ensures { result ≡ is_none_or_in (codes "feE") self.now.spec.ty }
     {
         matches!(self.ty, None | Some('f' | 'e' | 'E'))
     }

@@ -13,7 +13,7 @@ use Rattle.strfmt.specs.Spec.{View}
 use Rattle.strfmt.specs.Grammar.Pattern.{IsRead}
 use Rattle.strfmt.specs.Grammar.{Piece, ordinary, escape, pattern, Break, cause_of, IsPiece, IsCut}
 use Rattle.strfmt.specs.Inner.Cutting.{IsPlainFront, StopsBy, brace_byte}
-use Rattle.strfmt.specs.Walk.{Walked, Walks, blank}
+use Rattle.strfmt.specs.Walk.{Walked, Walks}
 
 -- The pieces that a segment stands for.
 abbrev pub pieces_of : Segment → List Piece
@@ -55,8 +55,8 @@ Grows old new = (added : List ℕ) × (new ≡ old ++ added)
 module _ {F : Type 0} (g : Mut F (MutBor View × Unit {0}) (Result (Unit {0}) FmtError × (MutBor View × Unit {0}))) where
   -- A pattern is filled by a call.
   abbrev pub FillsPattern : F → View → List ℕ → Result (Unit {0}) FmtError → List ℕ → F → Type 0
-  FillsPattern f view old (Ok done) new f' = (left : View) × CalledAtMut g f (blank view) (Ok tt) f' left × (new ≡ old ++ left.text)
-  FillsPattern f view old (Err error) new f' = (new ≡ old) × ((error ≡ NoMemory) ⊎ ((left : View) × CalledAtMut g f (blank view) (Err error) f' left))
+  FillsPattern f view old (Ok done) new f' = (left : View) × CalledAtMut g f (record view { text = [] }) (Ok tt) f' left × (new ≡ old ++ left.text)
+  FillsPattern f view old (Err error) new f' = (new ≡ old) × ((error ≡ NoMemory) ⊎ ((left : View) × CalledAtMut g f (record view { text = [] }) (Err error) f' left))
 
   -- A segment is filled.
   abbrev pub FillsOne : F → Segment → List ℕ → Result (Unit {0}) FmtError → List ℕ → F → Type 0
