@@ -1,6 +1,6 @@
 // Templates of formatx as layouts.
 ghost use Rattle.std.specs.Prelude.{◌≡◌, ◌∷◌, List, IfOk, IfSome, IsTrue};
-ghost use Rattle.formatx.specs.Spans.{ArgumentFits, Fits, PlaceholderFits, SegmentFits};
+ghost use Rattle.formatx.specs.Spans.{ArgumentFits, Fits, SegmentFits};
 ghost use Rattle.formatx.specs.declared.ast.Segment.{Segment as SegmentOf};
 ghost use Rattle.formatx.specs.declared.ast.Segment.TheVariants.{Placeholder as Placed};
 ghost use Rattle.printer.specs.declared.dialect.Dialect.TheVariants as Of;
@@ -61,7 +61,7 @@ fn push_placeholder(
     kinds: &[Kind],
     next: usize,
 ) -> Result<Option<usize>, NoMemory>
-    requires { PlaceholderFits template.now placeholder.now }
+    requires { SegmentFits template.now (Placed placeholder.now) }
     ensures { IfOk result (λ found. IfSome found (λ after. (rest : List SegmentOf) → Moves template.now names.now kinds.now layout.old (Placed placeholder.now ∷ rest) next layout.new rest after)) }
 {
     if !is_plain(&placeholder.spec) {
