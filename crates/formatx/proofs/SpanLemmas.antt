@@ -1,5 +1,5 @@
 -- The names in a specification fit a text, told of each name or part by part.
-use Rattle.std.proofs.Common.{◌≡◌, ◌⊎◌, inl, inr, ℕ, List, Option, Some, None, refl, subst}
+use Rattle.std.proofs.Common.{◌≡◌, inl, inr, ℕ, List, Option, Some, None, refl, subst}
 use Rattle.std.specs.Prelude.{MatchOption, ⊤}
 use Rattle.formatx.specs.Spans.{ArgumentFits, IsNameIn, SegmentFits, SpanFits}
 use Rattle.formatx.specs.Inner.Parts.{CountFits, PrecisionFits, SpecFits}

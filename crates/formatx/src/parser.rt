@@ -2,7 +2,7 @@
 ghost use Rattle.std.specs.Prelude.{◌≡◌, ◌<◌, ◌≤◌, false, true, drop, if◌then◌else◌, IfErr, IfNone, IfOk, IfSome, IsTrue, Ok, Some, is_some, length, slice_index, string_bytes, codes, encode_utf8, MatchOption, ⊤};
 ghost use Rattle.std.specs.Char.{is_ascii_digit, len_utf8};
 ghost use Rattle.std.specs.List.{prefix_len, take_while};
-ghost use Rattle.std.specs.Str.{IsCharBoundary};
+ghost use Rattle.std.specs.Str.{IsCharBoundary, byte};
 ghost use Rattle.formatx.specs.Fault.{Tells, between, quoting, unreadable};
 ghost use Rattle.formatx.specs.Words.{after, begins, is_plain, is_word, is_word_start, usize_of};
 ghost use Rattle.formatx.specs.Options.{align_by, count_of, fill_align_of, first_char, follows_zero, number_in, precision_of, sign_of, type_by, type_of, zero_of};
@@ -268,8 +268,8 @@ fn sign(text: &str) -> (Option<Sign>, &str)
 }
 
 fn alternate(text: &str) -> (bool, &str)
-    ensures hash { result.0 ≡ begins text.now 35 }
-    ensures rest { result.1.now ≡ (if begins text.now 35 then drop 1 text.now else text.now) }
+    ensures hash { result.0 ≡ begins text.now (byte "#") }
+    ensures rest { result.1.now ≡ (if begins text.now (byte "#") then drop 1 text.now else text.now) }
     ensures leaves { IsEnd text.now result.1.now }
 {
     match strip(text, b'#') {

@@ -1,5 +1,5 @@
 -- A placeholder fits where each part of it does.
-use Rattle.std.proofs.Common.{◌≡◌, IsTrue, sym, subst}
+use Rattle.std.proofs.Common.{◌≡◌, sym, subst}
 use Rattle.std.specs.Prelude.{MatchOption, ⊤}
 use Rattle.formatx.specs.Spans.{SpanFits, ArgumentFits, SegmentFits}
 use Rattle.formatx.specs.Inner.Parts.{CountFits}
