@@ -5,5 +5,6 @@ pub mod PrintLemmas
 pub mod LawLemmas
 pub mod WidthLemmas
 pub mod TemplateLemmas
+pub mod SpanLemmas
 pub mod Rows
 pub mod NameLemmas

@@ -4,7 +4,7 @@ use Rattle.std.specs.Prelude.{codes, Result}
 use Rattle.std.specs.Str.{chars}
 use Rattle.std.specs.Char.{encode_utf8}
 use Rattle.numerals.specs.Numeral.{numeral}
-use Rattle.formatx.specs.Fault.{Fault, unreadable, missing, unsupported, span}
+use Rattle.formatx.specs.Fault.{Fault, unreadable, missing, unsupported}
 use Rattle.formatx.specs.Options.{count_of, precision_of, type_of}
 use Rattle.formatx.specs.Placeholders.{argument_of, options_of, spec_of, placeholder_of}
 use Rattle.formatx.specs.Spans.{no_options}
@@ -17,7 +17,11 @@ use Rattle.formatx.specs.declared.ast.Sign.TheVariants.{Plus}
 use Rattle.formatx.specs.declared.ast.Count.TheVariants.{Literal as Number}
 use Rattle.formatx.specs.declared.ast.Precision.TheVariants.{Star}
 use Rattle.formatx.specs.declared.ast.Placeholder.{Placeholder}
+use Rattle.formatx.specs.declared.ast.Span.{Span}
 use Rattle.formatx.specs.declared.ast.Segment.TheVariants.{Literal, EscapedOpen, Placeholder as Placed}
+
+abbrev span : ℕ → ℕ → Span
+span start end = record { start = start; end = end }
 
 abbrev implicit : ℕ → ℕ → Placeholder
 implicit i j = record { argument = Implicit; spec = no_options; span = span i j }

@@ -1,5 +1,5 @@
 -- What can be wrong with a template or its values, as plain data, and how an `Error` tells it.
-use Rattle.std.specs.Prelude.{◌≡◌, ℕ, ◌-◌, List, ◌++◌, length, codes, string_bytes, decimal, ◌⊎◌, Result, Ok, Err}
+use Rattle.std.specs.Prelude.{◌≡◌, ℕ, ◌-◌, List, ◌++◌, length, codes, string_bytes, decimal, ◌⊎◌, Option, Some, None, unwrap_or, Result, Ok, Err}
 use Rattle.formatx.specs.declared.ast.Span.{Span}
 use Rattle.formatx.specs.declared.ast.FormatType.{FormatType}
 use Rattle.formatx.specs.declared.ast.FormatType.TheVariants.{Octal, LowerHex, UpperHex, Binary, LowerExp, UpperExp, Pointer}
@@ -18,13 +18,9 @@ abbrev pub ◌>>=◌ : {A B : Type 0} → Result A Fault → (A → Result B Fau
 (Ok a) >>= f = f a
 (Err e) >>= f = Err e
 
--- the bytes from `start` up to `end`
-abbrev pub span : ℕ → ℕ → Span
-span start end = record { start = start; end = end }
-
 -- a source of that size ends with both texts: the bytes where the first begins, up to where the second does
 abbrev pub between : ℕ → List ℕ → List ℕ → Span
-between size from to = span (size - length from) (size - length to)
+between size from to = record { start = size - length from; end = size - length to }
 
 -- the text between two backquotes, after the words
 abbrev pub quoting : List ℕ → List ℕ → List ℕ
@@ -41,20 +37,20 @@ IsFault NoMemory fault = ⊥
 abbrev pub Tells : Error → (Fault → Type 0) → Type 0
 Tells e P = ((fault : Fault) × P fault × IsFault e fault) ⊎ (e ≡ NoMemory)
 
--- the name of a type's trait
-abbrev pub trait_text : FormatType → List ℕ
-trait_text Octal = codes "Octal"
-trait_text LowerHex = codes "LowerHex"
-trait_text UpperHex = codes "UpperHex"
-trait_text Binary = codes "Binary"
-trait_text LowerExp = codes "LowerExp"
-trait_text UpperExp = codes "UpperExp"
-trait_text Pointer = codes "Pointer"
-trait_text _ = codes "Unknown"
+-- the trait that a type asks for, where no value has it; the other types are carried
+abbrev pub trait_of : FormatType → Option (List ℕ)
+trait_of Octal = Some (codes "Octal")
+trait_of LowerHex = Some (codes "LowerHex")
+trait_of UpperHex = Some (codes "UpperHex")
+trait_of Binary = Some (codes "Binary")
+trait_of LowerExp = Some (codes "LowerExp")
+trait_of UpperExp = Some (codes "UpperExp")
+trait_of Pointer = Some (codes "Pointer")
+trait_of _ = None
 
 -- what an error prints
 abbrev pub error_text : Error → List ℕ
 error_text (Parse s message) = codes "parse error at byte " ++ decimal s.start ++ codes ": " ++ string_bytes message
 error_text (MissingArgument name s) = codes "missing argument: `" ++ string_bytes name ++ codes "`"
-error_text (UnsupportedTrait t s) = codes "unsupported format trait: `" ++ trait_text t ++ codes "`"
+error_text (UnsupportedTrait t s) = codes "unsupported format trait: `" ++ unwrap_or (trait_of t) (codes "Unknown") ++ codes "`"
 error_text NoMemory = codes "no memory"

@@ -65,13 +65,11 @@ padding_of spec shape gap = if is_some spec.fill || is_some spec.align then alig
 
 -- a body with its padding
 abbrev pub laid_out : ℕ → Padding → Body → List ℕ
-laid_out fill padding body =
-    fills padding.left fill ++ body.sign ++ fills padding.zeros (byte "0") ++ body.rest ++ fills padding.right fill
+laid_out fill padding body = fills padding.left fill ++ body.sign ++ fills padding.zeros (byte "0") ++ body.rest ++ fills padding.right fill
 
 -- a body, padded to the width
 abbrev pub padded : FormatSpec → Shape → Option ℕ → Body → List ℕ
-padded spec shape width body =
-    laid_out (unwrap_or spec.fill (byte " ")) (padding_of spec shape (gap_of width body)) body
+padded spec shape width body = laid_out (unwrap_or spec.fill (byte " ")) (padding_of spec shape (gap_of width body)) body
 
 -- the text of a value under a type, and its shape; in hexadecimal it is raw
 abbrev pub shown_by : FormatType → Meaning → List ℕ × Shape

@@ -2,6 +2,7 @@
 -- the source, so each definition is handed the source's size.
 use Rattle.std.specs.Prelude.{◌≡◌, ◌<◌, ◌⊎◌, ℕ, Bool, ◌&&◌, not, List, [], ◌∷◌, ◌++◌, length, drop, codes, IsTrue, Result, Ok, Err}
 use Rattle.std.specs.Str.{byte}
+use Rattle.std.specs.Result.{MatchResult}
 use Rattle.formatx.specs.Fault.{Fault, unreadable, between}
 use Rattle.formatx.specs.Words.{begins, after, is_plain}
 use Rattle.formatx.specs.Placeholders.{placeholder_of}
@@ -45,5 +46,4 @@ IsTemplate source = (segments : List Segment) × Spells source segments
 
 -- what reading a source gives: its segments, or its first fault
 abbrev pub Reads : List ℕ → Result (List Segment) Fault → Type 0
-Reads source (Ok segments) = Spells source segments
-Reads source (Err fault) = HasFault source fault
+Reads source r = MatchResult r (Spells source) (HasFault source)

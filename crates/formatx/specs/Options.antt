@@ -50,10 +50,6 @@ abbrev pub sign_of : List ℕ → Option Sign × List ℕ
 sign_of text =
     if begins text (byte "+") then (Some Plus, drop 1 text) else (if begins text (byte "-") then (Some Minus, drop 1 text) else (None, text))
 
--- `#`
-abbrev pub alternate_of : List ℕ → Bool × List ℕ
-alternate_of text = if begins text (byte "#") then (true, drop 1 text) else (false, text)
-
 -- the types by the letter that they begin with
 abbrev pub type_by : ℕ → Option FormatType
 type_by c = lookup (λ letter. c == letter) (zip (codes "?oxXbeEp") (Debug ∷ Octal ∷ LowerHex ∷ UpperHex ∷ Binary ∷ LowerExp ∷ UpperExp ∷ Pointer ∷ []))
@@ -77,12 +73,11 @@ unfoldable pub count_of : ℕ → List ℕ → Read (Option Count)
 count_of size text =
     let digits = after is_ascii_digit text in
     let word = after is_word text in
-    if is_ascii_digit (slice_index text 0) then
-    (if begins digits (byte "$")
-    then (number_in size text (codes "invalid count parameter: ") >>= λ n. Ok (Some (Param (Positional n)), drop 1 digits))
-    else (number_in size text (codes "invalid count: ") >>= λ n. Ok (Some (Literal n), digits))) else
+    if is_ascii_digit (slice_index text 0) && begins digits (byte "$") then
+    (number_in size text (codes "invalid count parameter: ") >>= λ n. Ok (Some (Param (Positional n)), drop 1 digits)) else
+    (if is_ascii_digit (slice_index text 0) then (number_in size text (codes "invalid count: ") >>= λ n. Ok (Some (Literal n), digits)) else
     (if is_word_start (slice_index text 0) && begins word (byte "$") then Ok (Some (Param (Named (between size text word))), drop 1 word)
-    else Ok (None, text))
+    else Ok (None, text)))
 
 -- `.` and a count, or `.*`
 unfoldable pub precision_of : ℕ → List ℕ → Read (Option Precision)

@@ -5,7 +5,7 @@ use Rattle.std.specs.Str.{byte}
 use Rattle.formatx.specs.Fault.{unreadable, ◌>>=◌, between}
 use Rattle.formatx.specs.Words.{begins, after, is_word_start, is_word}
 use Rattle.formatx.specs.Spans.{no_options}
-use Rattle.formatx.specs.Options.{Read, fill_align_of, sign_of, alternate_of, zero_of, number_in, count_of, precision_of, type_of}
+use Rattle.formatx.specs.Options.{Read, fill_align_of, sign_of, zero_of, number_in, count_of, precision_of, type_of}
 use Rattle.formatx.specs.declared.ast.Argument.{Argument}
 use Rattle.formatx.specs.declared.ast.Argument.TheVariants.{Implicit, Positional, Named}
 use Rattle.formatx.specs.declared.ast.FormatSpec.{FormatSpec}
@@ -24,21 +24,20 @@ argument_of size text =
     (if follows_argument text then Ok (Implicit, text) else
     (if is_ascii_digit (slice_index text 0) && follows_argument after_digits
     then (number_in size text (codes "invalid positional argument: ") >>= λ n. Ok (Positional n, after_digits)) else
-    (if is_word_start (slice_index text 0) && follows_argument after_word
-    then Ok (Named (between size text after_word), after_word)
+    (if is_word_start (slice_index text 0) && follows_argument after_word then Ok (Named (between size text after_word), after_word)
     else Err (unreadable (between size text (drop 1 text)) (codes "invalid placeholder argument")))))
 
--- the parts of a specification in their order
+-- the parts of a specification in their order; `#` is a part of its own
 unfoldable pub options_of : ℕ → List ℕ → Read FormatSpec
 options_of size text =
     let filled = fill_align_of text in
     let signed = sign_of filled.2 in
-    let alternate = alternate_of signed.1 in
-    let zeroed = zero_of alternate.1 in
+    let hash = begins signed.1 (byte "#") in
+    let zeroed = zero_of (if hash then drop 1 signed.1 else signed.1) in
     count_of size zeroed.1 >>= λ width.
     precision_of size width.1 >>= λ precise.
     type_of size precise.1 >>= λ typed.
-    Ok (record { fill = filled.0; align = filled.1; sign = signed.0; alternate = alternate.0; zero_pad = zeroed.0; width = width.0; precision = precise.0; format_type = typed.0 }, typed.1)
+    Ok (record { fill = filled.0; align = filled.1; sign = signed.0; alternate = hash; zero_pad = zeroed.0; width = width.0; precision = precise.0; format_type = typed.0 }, typed.1)
 
 -- `:` and a specification, if it is there
 unfoldable pub spec_of : ℕ → List ℕ → Read FormatSpec

@@ -1,16 +1,14 @@
 -- Where the parts of a template stand in its source, and what stands for no options.
-use Rattle.std.specs.Prelude.{◌≡◌, ◌≤◌, ℕ, ◌+◌, List, [], ◌∷◌, All, None, false, MatchOption, ⊤}
+use Rattle.std.specs.Prelude.{◌≡◌, ◌≤◌, ◌⊎◌, ℕ, ◌+◌, List, [], ◌∷◌, All, Some, None, false, ⊤}
 use Rattle.std.specs.Str.{IsCharBoundary}
 use Rattle.formatx.specs.declared.ast.Span.{Span}
 use Rattle.formatx.specs.declared.ast.FormatSpec.{FormatSpec}
 use Rattle.formatx.specs.declared.ast.FormatType.TheVariants.{Display}
 use Rattle.formatx.specs.declared.ast.Argument.{Argument}
 use Rattle.formatx.specs.declared.ast.Argument.TheVariants as Of
-use Rattle.formatx.specs.declared.ast.Count.{Count}
 use Rattle.formatx.specs.declared.ast.Count.TheVariants.{Param}
 use Rattle.formatx.specs.declared.ast.CountParam.TheVariants.{Named}
-use Rattle.formatx.specs.declared.ast.Precision.{Precision}
-use Rattle.formatx.specs.declared.ast.Precision.TheVariants.{Count as Counted, Star}
+use Rattle.formatx.specs.declared.ast.Precision.TheVariants.{Count as Counted}
 use Rattle.formatx.specs.declared.ast.Segment.{Segment}
 use Rattle.formatx.specs.declared.ast.Segment.TheVariants.{Literal, Placeholder as Placed}
 
@@ -23,21 +21,14 @@ abbrev pub ArgumentFits : List ℕ → Argument → Type 0
 ArgumentFits source (Of.Named s) = SpanFits source s
 ArgumentFits source _ = ⊤
 
--- the span of a count's name fits the text
-abbrev pub CountFits : List ℕ → Count → Type 0
-CountFits source (Param (Named s)) = SpanFits source s
-CountFits source _ = ⊤
-
--- the span of a precision's name fits the text
-abbrev pub PrecisionFits : List ℕ → Precision → Type 0
-PrecisionFits source (Counted c) = CountFits source c
-PrecisionFits source Star = ⊤
+-- the span is that of a name in the specification, which its width or its precision has
+abbrev pub IsNameIn : FormatSpec → Span → Type 0
+IsNameIn spec s = (spec.width ≡ Some (Param (Named s))) ⊎ (spec.precision ≡ Some (Counted (Param (Named s))))
 
 -- each span of the segment fits the text: its own, and those of the names in a placeholder
 abbrev pub SegmentFits : List ℕ → Segment → Type 0
 SegmentFits source (Literal s) = SpanFits source s
-SegmentFits source (Placed p) =
-    SpanFits source p.span × ArgumentFits source p.argument × MatchOption p.spec.width ⊤ (CountFits source) × MatchOption p.spec.precision ⊤ (PrecisionFits source)
+SegmentFits source (Placed p) = SpanFits source p.span × ArgumentFits source p.argument × ((s : Span) → IsNameIn p.spec s → SpanFits source s)
 SegmentFits source _ = ⊤
 
 -- each span of each segment fits the text

@@ -1,7 +1,7 @@
 -- What a template prints over values: the text of each segment in order, up to the first fault.
 use Rattle.std.specs.Prelude.{◌≡◌, ℕ, ◌+◌, List, [], ◌∷◌, ◌++◌, codes, if◌then◌else◌, Option, Some, None, Result, Ok, Err}
 use Rattle.std.specs.Option.{option_map_or}
-use Rattle.formatx.specs.Fault.{Fault, missing, unsupported, ◌>>=◌}
+use Rattle.formatx.specs.Fault.{Fault, missing, unsupported, trait_of, ◌>>=◌}
 use Rattle.formatx.specs.Grammar.{Spells}
 use Rattle.formatx.specs.Values.{Meaning}
 use Rattle.formatx.specs.Field.{field_text}
@@ -9,7 +9,6 @@ use Rattle.formatx.specs.declared.error.Error.{Error}
 use Rattle.formatx.specs.declared.error.Error.TheVariants.{NoMemory}
 use Rattle.formatx.specs.declared.ast.Span.{Span}
 use Rattle.formatx.specs.declared.ast.FormatType.{FormatType}
-use Rattle.formatx.specs.declared.ast.FormatType.TheVariants.{Display, Debug, DebugLowerHex, DebugUpperHex}
 use Rattle.formatx.specs.declared.ast.Placeholder.{Placeholder}
 use Rattle.formatx.specs.declared.ast.Segment.{Segment}
 use Rattle.formatx.specs.declared.ast.Segment.TheVariants.{Literal as Plain, EscapedOpen, EscapedClose, Placeholder as Placed}
@@ -19,11 +18,7 @@ use Rattle.formatx.specs.Arguments.{value_at, argument_name, precision_takes, ar
 
 -- only `{}`, `{:?}`, `{:x?}` and `{:X?}` are carried
 abbrev pub supported : FormatType → Span → Result FormatType Fault
-supported Display s = Ok Display
-supported Debug s = Ok Debug
-supported DebugLowerHex s = Ok DebugLowerHex
-supported DebugUpperHex s = Ok DebugUpperHex
-supported other s = Err (unsupported other s)
+supported t s = option_map_or (λ _. Err (unsupported t s)) (trait_of t) (Ok t)
 
 -- a value that is there: width, then type, then text
 abbrev pub present_text : Scene → Placeholder → Option ℕ → Meaning → Result (List ℕ) Fault
@@ -41,8 +36,7 @@ argument_text scene next p precision value =
 abbrev pub placeholder_text : Scene → ℕ → Placeholder → Result (List ℕ) Fault
 placeholder_text scene next p =
     let own = next + precision_takes p.spec.precision in
-    precision_of scene next p.spec.precision >>= λ precision.
-    argument_text scene own p precision (value_at scene own p.argument)
+    precision_of scene next p.spec.precision >>= λ precision. argument_text scene own p precision (value_at scene own p.argument)
 
 -- a literal prints the part of the source that it covers, and an escape one brace
 abbrev pub segment_text : Scene → ℕ → Segment → Result (List ℕ) Fault

@@ -45,13 +45,10 @@ escaped quote c =
     option_map_or (λ letter. byte "\\" ∷ letter ∷ []) (lookup (λ k. c == k) (zip (0 ∷ 9 ∷ 13 ∷ 10 ∷ []) (codes "0trn")))
     (if nat_lt c 32 || c == 127 then codes "\\u{" ++ numeral 16 false c ++ codes "}" else encode_utf8 c)
 
--- characters between quotes
-abbrev pub quoted : ℕ → List ℕ → List ℕ
-quoted quote cs = quote ∷ flat_map (escaped quote) cs ++ quote ∷ []
-
--- a text, whose characters are quoted by the byte given
+-- a text, whose characters for debugging are escaped and stand between quotes, which are the byte given
 abbrev pub text_meaning : ℕ → List ℕ → Meaning
-text_meaning quote text = record { display = text; debug = λ _. quoted quote (chars text); display_shape = Text; debug_shape = Raw }
+text_meaning quote text =
+    record { display = text; debug = λ _. quote ∷ flat_map (escaped quote) (chars text) ++ quote ∷ []; display_shape = Text; debug_shape = Raw }
 
 -- a text is quoted by `"`
 abbrev pub str_meaning : List ℕ → Meaning

@@ -1,6 +1,7 @@
 // The syntax tree of a template.
 ghost use Rattle.std.specs.Prelude.{◌≡◌, ◌↔◌, IsTrue, MatchOption, ⊤};
-ghost use Rattle.formatx.specs.Spans.{SpanFits, ArgumentFits, CountFits, PrecisionFits, SegmentFits, Fits, HasNoOptions, no_options};
+ghost use Rattle.formatx.specs.Spans.{SpanFits, ArgumentFits, SegmentFits, Fits, HasNoOptions, no_options};
+ghost use Rattle.formatx.specs.Inner.Parts.{CountFits, PrecisionFits};
 
 /// A range of bytes in the source of a template: `start` belongs to it, `end` doesn't.
 #[derive(Debug, Clone, Copy, PartialEq, Eq)]

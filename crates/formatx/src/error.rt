@@ -1,6 +1,6 @@
 // What can go wrong in a template, or between a template and its values.
-ghost use Rattle.std.specs.Prelude.{◌≡◌};
-ghost use Rattle.formatx.specs.Fault.{trait_text};
+ghost use Rattle.std.specs.Prelude.{◌≡◌, codes, unwrap_or};
+ghost use Rattle.formatx.specs.Fault.{trait_of};
 
 use crate::ast::{FormatType, Span};
 use std::alloc::AllocError;
@@ -46,7 +46,7 @@ impl fmt::Display for Error {
 }
 
 fn trait_name(format_type: FormatType) -> &'static str
-    ensures { result.now ≡ trait_text format_type }
+    ensures { result.now ≡ unwrap_or (trait_of format_type) (codes "Unknown") }
 {
     match format_type {
         FormatType::Octal => "Octal",

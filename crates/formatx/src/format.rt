@@ -3,12 +3,12 @@ ghost use Rattle.std.specs.Prelude.{◌≡◌, ◌++◌, ◌+◌, ◌<◌, ◌�
 ghost use Rattle.numerals.specs.Numeral.{numeral};
 ghost use Rattle.formatx.specs.Fault.{Tells};
 ghost use Rattle.formatx.specs.Inner.Answers.{Answers};
-ghost use Rattle.formatx.specs.Spans.{ArgumentFits, CountFits, Fits, PrecisionFits, SegmentFits, SpanFits};
+ghost use Rattle.formatx.specs.Spans.{ArgumentFits, Fits, SegmentFits, SpanFits};
 ghost use Rattle.formatx.specs.Field.{aligned, body_of, by_shape, cut, field_text, gap_of, number_body, padding_of, shaped, shown_by, sign_text};
 ghost use Rattle.formatx.specs.Scene.{covered, scene_over};
 ghost use Rattle.formatx.specs.Inner.Scenes.{scene_of};
 ghost use Rattle.formatx.specs.Counts.{count_at_position, count_of, number_at, precision_of, width_of};
-ghost use Rattle.formatx.specs.Inner.Parts.{number_of};
+ghost use Rattle.formatx.specs.Inner.Parts.{CountFits, PrecisionFits, number_of};
 ghost use Rattle.formatx.specs.Arguments.{argument_name, argument_takes, position_at, precision_takes, value_at};
 ghost use Rattle.formatx.specs.Text.{Appends, Holds, placeholder_text, present_text, rendered, segment_takes, segment_text, argument_text, supported, whole};
 

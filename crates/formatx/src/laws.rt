@@ -1,7 +1,7 @@
 // Laws of templates: each function has an empty body, and its clause is the law.
 ghost use Rattle.formatx.specs.Laws.{FieldsAreWide, FinishesAgree, HasOneReading, MissingIsEmpty};
 
-/// Strict and lenient printing agree where no placeholder lacks its value.
+/// Strict and lenient printing agree, but where the strict one refuses a missing value.
 pub fn finishes_agree()
     ensures { FinishesAgree }
 {}

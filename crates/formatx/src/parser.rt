@@ -1,17 +1,17 @@
 // Reads a template: one function for each part of the grammar, which answers the part in front of a text and what follows it.
-ghost use Rattle.std.specs.Prelude.{◌≡◌, ◌<◌, ◌≤◌, false, true, drop, IfErr, IfNone, IfOk, IfSome, IsTrue, Ok, Some, is_some, length, slice_index, string_bytes, codes, encode_utf8, MatchOption, ⊤};
+ghost use Rattle.std.specs.Prelude.{◌≡◌, ◌<◌, ◌≤◌, false, true, drop, if◌then◌else◌, IfErr, IfNone, IfOk, IfSome, IsTrue, Ok, Some, is_some, length, slice_index, string_bytes, codes, encode_utf8, MatchOption, ⊤};
 ghost use Rattle.std.specs.Char.{is_ascii_digit, len_utf8};
 ghost use Rattle.std.specs.List.{prefix_len, take_while};
-ghost use Rattle.std.specs.Str.{IsCharBoundary};
+ghost use Rattle.std.specs.Str.{IsCharBoundary, byte};
 ghost use Rattle.formatx.specs.Fault.{Tells, between, quoting, unreadable};
 ghost use Rattle.formatx.specs.Words.{after, begins, is_plain, is_word, is_word_start, usize_of};
-ghost use Rattle.formatx.specs.Options.{align_by, alternate_of, count_of, fill_align_of, first_char, follows_zero, number_in, precision_of, sign_of, type_by, type_of, zero_of};
+ghost use Rattle.formatx.specs.Options.{align_by, count_of, fill_align_of, first_char, follows_zero, number_in, precision_of, sign_of, type_by, type_of, zero_of};
 ghost use Rattle.formatx.specs.Placeholders.{argument_of, follows_argument, options_of, placeholder_of, spec_of};
 ghost use Rattle.formatx.specs.Grammar.{BeginsWithFault, HasFault, IsSegment, IsTemplate, Spells};
-ghost use Rattle.formatx.specs.Spans.{ArgumentFits, CountFits, Fits, PrecisionFits, SegmentFits, SpanFits, Tiles};
+ghost use Rattle.formatx.specs.Spans.{ArgumentFits, Fits, SegmentFits, SpanFits, Tiles};
 ghost use Rattle.formatx.specs.Inner.Answers.{Answers};
 ghost use Rattle.formatx.specs.Inner.Ends.{IsEnd};
-ghost use Rattle.formatx.specs.Inner.Parts.{SpecFits, hex_of, number_count_of};
+ghost use Rattle.formatx.specs.Inner.Parts.{CountFits, PrecisionFits, SpecFits, hex_of, number_count_of};
 
 use crate::ast::{
     Align, Argument, Count, CountParam, FormatSpec, FormatString, FormatType, Placeholder,
@@ -268,7 +268,8 @@ fn sign(text: &str) -> (Option<Sign>, &str)
 }
 
 fn alternate(text: &str) -> (bool, &str)
-    ensures value { alternate_of text.now ≡ (result.0, result.1.now) }
+    ensures hash { result.0 ≡ begins text.now (byte "#") }
+    ensures rest { result.1.now ≡ (if begins text.now (byte "#") then drop 1 text.now else text.now) }
     ensures leaves { IsEnd text.now result.1.now }
 {
     match strip(text, b'#') {

@@ -1,6 +1,7 @@
 // The values that a template prints: two texts and two shapes.
 ghost use Rattle.std.specs.Prelude.{false, ◌≡◌, ◌++◌, ◌<◌, ℤ, pos, IfErr, OnErr, OnOk, length, string_bytes, string_len, take, codes, chars, IsUtf8, ◌∷◌, [], List, ℕ};
-ghost use Rattle.formatx.specs.Values.{decimal_of, escaped, integer_debug, quoted, Extends};
+ghost use Rattle.formatx.specs.Values.{decimal_of, escaped, integer_debug, Extends};
+ghost use Rattle.formatx.specs.Inner.Parts.{quoted};
 ghost use Rattle.numerals.specs.Numeral.{numeral};
 
 use crate::error::Error;

@@ -6,7 +6,8 @@ use Rattle.std.proofs.lemmas.Iterator.{YieldsList-from_chars}
 use Rattle.std.proofs.lemmas.Iterator.Consumers.{YieldsList-end}
 use Rattle.std.proofs.lemmas.Bool.Decides.{nat_tests}
 use Rattle.std.proofs.lemmas.List.{map-id}
-use Rattle.formatx.specs.Values.{escaped, quoted}
+use Rattle.formatx.specs.Values.{escaped}
+use Rattle.formatx.specs.Inner.Parts.{quoted}
 use Rattle.formatx.proofs.value.push_characters.Goals as goal
 
 pub returns-clause-ok : goal.returns-clause-ok
