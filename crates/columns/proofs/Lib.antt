@@ -1,3 +1,4 @@
+mod Eights
 pub mod Digits
 pub mod Fields
 pub mod Filled

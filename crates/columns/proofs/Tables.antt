@@ -9,7 +9,7 @@ use Rattle.columns.specs.Inner.Shapes.{IsDigit}
 use Rattle.columns.specs.declared.digit_tables.TheConstants.{LOWER, UPPER}
 
 -- the value of a digit of the case, and 255 where the byte is none
-abbrev told : Bool → ℕ → ℕ
+abbrev pub told : Bool → ℕ → ℕ
 told false c = cond (nat_lt c 48) 255 (cond (nat_lt c 58) (c - 48) (cond (nat_lt c 97) 255 (cond (nat_lt c 103) (c - 87) 255)))
 told true c = cond (nat_lt c 48) 255 (cond (nat_lt c 58) (c - 48) (cond (nat_lt c 65) 255 (cond (nat_lt c 71) (c - 55) 255)))
 
@@ -44,6 +44,10 @@ letter true c h = inl (low_letter c h)
 value : (upper : Bool) (c : ℕ) → told upper c < 16 → digit_value c ≡ told upper c
 value false c h = lower_value c h
 value true c h = upper_value c h
+
+-- a byte that has a value as a digit of the case is such a digit
+pub told_digit : (upper : Bool) (c : ℕ) → told upper c < 16 → IsDigit 16 upper c (told upper c)
+told_digit upper c small = record { small = small; letter = letter upper c small; value = value upper c small }
 
 digit_at : (upper : Bool) (table : List ℕ) (c i : ℕ) → T (agrees upper table 256) → i ≡ c → c < 256 → slice_index_or table i 0 < 16 → IsDigit 16 upper c (slice_index_or table i 0)
 digit_at upper table c i all same byte small =

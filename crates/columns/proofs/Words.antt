@@ -1,11 +1,15 @@
 -- What fields print of the words that are taken.
-use Rattle.std.proofs.Common.{◌≡◌, ◌<◌, ◌≤◌, ◌+◌, ◌-◌, min, take_all, ℕ, Bool, true, false, if◌then◌else◌, List, [], ◌∷◌, ◌++◌, length, take, drop, zero, suc, length-drop, get_or, Option, Some, None, Result, Ok, sym, ap, subst, refl, ◌∙◌, ⊎_elim, arith}
-use Rattle.std.specs.List.{AllByRecursion}
+use Rattle.std.proofs.Common.{◌≡◌, ◌<◌, ◌≤◌, ◌+◌, ◌-◌, min, take_all, ℕ, Bool, true, false, if◌then◌else◌, List, [], ◌∷◌, ◌++◌, length, take, drop, zero, suc, length-drop, get_or, Option, Some, None, Result, Ok, map, not, cond, eqb, leb, ◌%◌, ◌^◌, sym, ap, ap₂, subst, refl, ◌∙◌, ⊎_elim, arith}
+use Rattle.std.specs.List.{AllByRecursion, prefix_len}
+use lib.Bits.{bit_or}
+use lib.Count.{count_trailing_zeros}
+use lib.Lanes.{chunk, mask_l, top}
+use Rattle.std.proofs.lemmas.Simd.{length-chunk, map-map, mask_l-mod, leading_from_mask_l, trailing_mask_l, run_in_chunk_le, run_in_chunk_fails}
 use Rattle.std.specs.Str.{byte, chars, IsUtf8, IsCharBoundary, encode_utf8_all}
 use Rattle.std.specs.Char.{encode_utf8}
-use Rattle.std.proofs.lemmas.Bool.{cases_lt}
+use Rattle.std.proofs.lemmas.Bool.{cases_lt, leb-false, eqb-false}
 use Rattle.std.proofs.lemmas.Bool.Decides.{nat_tests}
-use Rattle.std.proofs.lemmas.List.{append-nil, take_more, take_rest, length-take-le, take-append-drop}
+use Rattle.std.proofs.lemmas.List.{append-nil, take_more, take_rest, length-take-le, take-append-drop, take-take, drop-take, length-map}
 use Rattle.std.proofs.lemmas.Str.{chars-nil, chars_past_char, encode_ascii, encodes-chars, IsCharBoundary-end, IsUtf8-take}
 use Rattle.std.specs.Fmt.Cut.{floor_char_boundary}
 use Rattle.padding.specs.Field.{fills}
@@ -29,12 +33,71 @@ use Rattle.tokens.specs.declared.Token.{Token}
 
 -- the bytes that are counted
 
+all_append : (P : ℕ → Type 0) (xs ys : List ℕ) → AllByRecursion P xs → AllByRecursion P ys → AllByRecursion P (xs ++ ys)
+all_append P [] ys all more = more
+all_append P (x ∷ xs) ys all more = (all.0, all_append P xs ys all.1 more)
+
+take_sum : (m n : ℕ) (xs : List ℕ) → take (m + n) xs ≡ take m xs ++ take n (drop m xs)
+take_sum m n xs = sym (take-append-drop m (take (m + n) xs)) ∙ ap₂ (λ (a b : List ℕ). a ++ b) (take-take m (m + n) xs (omega arith)) (drop-take m n xs)
+
 all_push : (P : ℕ → Type 0) (xs : List ℕ) (x : ℕ) → AllByRecursion P xs → P x → AllByRecursion P (xs ++ x ∷ [])
 all_push P [] x all one = (one, tt)
 all_push P (y ∷ xs) x all one = (all.0, all_push P xs x all.1 one)
 
 pub bytes_more : (text : List ℕ) (i stop : ℕ) → i < length text → AllByRecursion (IsWordByte stop) (take i text) → IsWordByte stop (get_or text i 0) → AllByRecursion (IsWordByte stop) (take (i + 1) text)
 bytes_more text i stop within all one = subst (AllByRecursion (IsWordByte stop)) (sym (take_more text i 0 within)) (all_push (IsWordByte stop) (take i text) (get_or text i 0) all one)
+
+-- bytes in front, each by its place
+all_front : (text : List ℕ) (stop r : ℕ) → r ≤ length text → ((k : ℕ) → k < r → IsWordByte stop (get_or text k 0)) → AllByRecursion (IsWordByte stop) (take r text)
+all_front text stop zero le at = tt
+all_front text stop (suc r) le at =
+    let e : r + 1 ≡ suc r = omega arith in
+    subst (λ n. AllByRecursion (IsWordByte stop) (take n text)) e
+    (bytes_more text r stop (omega (arith, le)) (all_front text stop r (omega (arith, le)) (λ k lt. at k (omega (arith, lt)))) (at r (omega arith)))
+
+pub all_behind_run : (text : List ℕ) (stop len run : ℕ) → AllByRecursion (IsWordByte stop) (take len text) → AllByRecursion (IsWordByte stop) (take run (drop len text)) → AllByRecursion (IsWordByte stop) (take (len + run) text)
+all_behind_run text stop len run all more = subst (AllByRecursion (IsWordByte stop)) (sym (take_sum len run text)) (all_append (IsWordByte stop) (take len text) (take run (drop len text)) all more)
+
+-- the lanes of a test of sixteen bytes
+
+abbrev pub may_end : ℕ → ℕ → ℕ
+may_end stop c = bit_or (cond (leb c 32) 255 0) (cond (eqb c stop) 255 0)
+
+neither : (a b : Bool) → top 7 (bit_or (cond a 255 0) (cond b 255 0)) ≡ false → (a ≡ false) × (b ≡ false)
+neither true true e = absurd cc
+neither true false e = absurd cc
+neither false true e = absurd cc
+neither false false e = (refl, refl)
+
+above_space : (c : ℕ) → 32 < c → is_blank c ≡ false
+above_space c high = grind (arith, nat_tests)
+
+sure_byte : (stop c : ℕ) → top 7 (may_end stop c) ≡ false → IsWordByte stop c
+sure_byte stop c none =
+    let parts = neither (leb c 32) (eqb c stop) none in
+    (above_space c (leb-false c 32 parts.0), eqb-false c stop parts.1)
+
+mask_is : (text : List ℕ) (stop : ℕ) {z : List ℕ} → 16 ≤ length text → z ≡ map (may_end stop) (chunk 0 16 text) → mask_l (map (top 7) z) % 2 ^ 64 ≡ mask_l (map (λ c. top 7 (may_end stop c)) (chunk 0 16 text))
+mask_is text stop long lanes =
+    let v = chunk 0 16 text in
+    let size = length-chunk 0 16 text long in
+    ap (λ l. mask_l l % 2 ^ 64) (ap (map (top 7)) lanes ∙ map-map (top 7) (may_end stop) v) ∙ mask_l-mod (map (λ c. top 7 (may_end stop c)) v) 64 (omega (arith, length-map v (λ c. top 7 (may_end stop c)), size))
+
+sure_front : (text : List ℕ) (stop r : ℕ) → 16 ≤ length text → r ≡ prefix_len (λ c. not (top 7 (may_end stop c))) (chunk 0 16 text) → AllByRecursion (IsWordByte stop) (take r text) × (r ≤ 16)
+sure_front text stop r long counted =
+    let few : r ≤ 16 = run_in_chunk_le (λ c. top 7 (may_end stop c)) text 0 16 r 0 long counted in
+    (all_front text stop r (omega (arith, few, long)) (λ k lt. sure_byte stop (get_or text k 0) (run_in_chunk_fails (λ c. top 7 (may_end stop c)) text 0 16 r 0 long counted k (omega arith) (omega (arith, lt)))), few)
+
+pub sure_all : (text : List ℕ) (stop : ℕ) {z : List ℕ} → 16 ≤ length text → z ≡ map (may_end stop) (chunk 0 16 text) → mask_l (map (top 7) z) % 2 ^ 64 ≡ 0 → AllByRecursion (IsWordByte stop) (take 16 text) × (16 ≤ 16)
+sure_all text stop long lanes none =
+    sure_front text stop 16 long (sym (leading_from_mask_l (λ c. top 7 (may_end stop c)) (chunk 0 16 text) (sym (mask_is text stop long lanes) ∙ none) ∙ length-chunk 0 16 text long))
+
+pub sure_some : (text : List ℕ) (stop r : ℕ) {z : List ℕ} → 16 ≤ length text → z ≡ map (may_end stop) (chunk 0 16 text) → (mask_l (map (top 7) z) % 2 ^ 64 ≡ 0 → ⊥) → r ≡ count_trailing_zeros 64 (mask_l (map (top 7) z) % 2 ^ 64) → AllByRecursion (IsWordByte stop) (take r text) × (r ≤ 16)
+sure_some text stop r long lanes some is =
+    let mask = mask_is text stop long lanes in
+    let size = length-chunk 0 16 text long in
+    let more : 0 < mask_l (map (λ c. top 7 (may_end stop c)) (chunk 0 16 text)) = ⊎_elim (λ (zero_ : mask_l (map (λ c. top 7 (may_end stop c)) (chunk 0 16 text)) < 1). absurd (some (mask ∙ omega (arith, zero_)))) (λ (one : 1 ≤ mask_l (map (λ c. top 7 (may_end stop c)) (chunk 0 16 text))). omega (arith, one)) (cases_lt (mask_l (map (λ c. top 7 (may_end stop c)) (chunk 0 16 text))) 1) in
+    sure_front text stop r long (is ∙ ap (count_trailing_zeros 64) mask ∙ trailing_mask_l (λ c. top 7 (may_end stop c)) 64 (chunk 0 16 text) (omega (arith, size)) more)
 
 -- from bytes to characters
 

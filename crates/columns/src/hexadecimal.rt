@@ -5,6 +5,7 @@ ghost use Rattle.columns.specs.Inner.Serves.{AreBounds};
 ghost use Rattle.columns.specs.declared.take.Take.TheVariants.{Bits};
 
 use crate::digit_tables::{LOWER, UPPER};
+use crate::eight::{EIGHT, eight_hexadecimal};
 use crate::number::has_zero_in_front;
 use crate::step::behind;
 use values::Kind;
@@ -147,16 +148,43 @@ impl Notation {
     }
 }
 
-// The number that the digits in front are, at most as many as 64 bits hold, and how many they are.
+// The number that the first eight digits are, if as many stand in front; in octal none is read so.
 #[inline(always)]
-fn digits_of(text: &[u8], notation: Notation) -> (u64, usize)
+fn eight_digits(text: &[u8], notation: Notation) -> Option<u64>
+    ensures digits { IfSome result (AreDigits (base_of notation) (is_upper notation) (take 8 text.now)) }
+    ensures within { IfSome result (λ number. 8 ≤ length text.now) }
+{
+    match notation {
+        Notation::Octal => None,
+        Notation::Lower => eight_hexadecimal(text, false),
+        Notation::Upper => eight_hexadecimal(text, true),
+    }
+}
+
+// The number that the first eight digits are, and how many they are; none is read where fewer stand in front.
+#[inline(always)]
+fn first_digits(text: &[u8], notation: Notation) -> (u64, usize)
     ensures digits { AreDigits (base_of notation) (is_upper notation) (take result.1 text.now) result.0 }
     ensures within { result.1 ≤ length text.now }
 {
-    let front = &text[..text.len().min(notation.safe())];
-    let mut number = 0;
-    let mut count = 0;
-    'digits: for byte in front {
+    match eight_digits(text, notation) {
+        Some(number) => (number, EIGHT),
+        None => (0, 0),
+    }
+}
+
+// The number that all the digits in front are, and how many they are, where so many are known.
+#[inline(always)]
+fn more_digits(text: &[u8], notation: Notation, before: u64, known: usize) -> (u64, usize)
+    requires digits { AreDigits (base_of notation) (is_upper notation) (take known text.now) before }
+    requires within { known ≤ length text.now }
+    requires few { length text.now ≤ safe_digits notation }
+    ensures digits { AreDigits (base_of notation) (is_upper notation) (take result.1 text.now) result.0 }
+    ensures within { result.1 ≤ length text.now }
+{
+    let mut number = before;
+    let mut count = known;
+    'digits: for byte in &text[known..] {
         let Some(digit) = notation.digit(*byte) else {
             break;
         };
@@ -164,6 +192,17 @@ fn digits_of(text: &[u8], notation: Notation) -> (u64, usize)
         count += 1;
     }
     (number, count)
+}
+
+// The number that the digits in front are, at most as many as 64 bits hold, and how many they are.
+#[inline(always)]
+fn digits_of(text: &[u8], notation: Notation) -> (u64, usize)
+    ensures digits { AreDigits (base_of notation) (is_upper notation) (take result.1 text.now) result.0 }
+    ensures within { result.1 ≤ length text.now }
+{
+    let front = &text[..text.len().min(notation.safe())];
+    let (number, count) = first_digits(front, notation);
+    more_digits(front, notation, number, count)
 }
 
 // The same, by a loop for each notation.

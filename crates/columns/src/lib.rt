@@ -2,6 +2,7 @@
 #![tactic(auto)]
 
 mod digit_tables;
+mod eight;
 mod hexadecimal;
 mod integer;
 mod number;

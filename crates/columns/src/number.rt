@@ -3,8 +3,43 @@ ghost use Rattle.std.specs.Prelude.{◌≡◌, ◌≢◌, ◌<◌, ◌≤◌, fa
 ghost use Rattle.columns.specs.Inner.Shapes.{AreDigits, IsNaturalInFront, IsTaken};
 ghost use Rattle.columns.specs.declared.take.Take.TheVariants.{Natural, Filled};
 
+use crate::eight::{EIGHT, eight_decimal};
+
 /// As many digits as any number has that 64 bits hold, but for one.
 const SAFE: usize = 19;
+
+// The number that the first eight digits are, and how many they are; none is read where fewer stand in front.
+#[inline(always)]
+fn first_digits(text: &[u8]) -> (u64, usize)
+    ensures digits { AreDigits 10 false (take result.1 text.now) result.0 }
+    ensures within { result.1 ≤ length text.now }
+{
+    match eight_decimal(text) {
+        Some(number) => (number, EIGHT),
+        None => (0, 0),
+    }
+}
+
+// The number that all the digits in front are, and how many they are, where so many are known.
+#[inline(always)]
+fn more_digits(text: &[u8], before: u64, known: usize) -> (u64, usize)
+    requires digits { AreDigits 10 false (take known text.now) before }
+    requires within { known ≤ length text.now }
+    requires few { length text.now ≤ 19 }
+    ensures digits { AreDigits 10 false (take result.1 text.now) result.0 }
+    ensures within { result.1 ≤ length text.now }
+{
+    let mut number = before;
+    let mut count = known;
+    'digits: for byte in &text[known..] {
+        if !byte.is_ascii_digit() {
+            break;
+        }
+        number = number * 10 + u64::from(*byte - b'0');
+        count += 1;
+    }
+    (number, count)
+}
 
 // The number that the digits in front are, at most nineteen of them, and how many they are.
 #[inline(always)]
@@ -14,16 +49,8 @@ fn digits_in_front(text: &[u8]) -> (u64, usize)
     ensures few { result.1 ≤ 19 }
 {
     let front = &text[..text.len().min(SAFE)];
-    let mut number = 0;
-    let mut count = 0;
-    'digits: for byte in front {
-        if !byte.is_ascii_digit() {
-            break;
-        }
-        number = number * 10 + u64::from(*byte - b'0');
-        count += 1;
-    }
-    (number, count)
+    let (number, count) = first_digits(front);
+    more_digits(front, number, count)
 }
 
 // The number with the twentieth digit behind it, if that is one; None where the number is too great.

@@ -77,6 +77,11 @@ is_upper Octal = false
 is_upper Lower = false
 is_upper Upper = true
 
+-- The first of the letters that are digits in hexadecimal.
+abbrev pub first_letter : Bool → ℕ
+first_letter false = 97
+first_letter true = 65
+
 -- As many digits of a notation as 64 bits hold, whatever they are.
 abbrev pub safe_digits : Notation → ℕ
 safe_digits Octal = 21
