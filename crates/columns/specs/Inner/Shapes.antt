@@ -77,7 +77,7 @@ is_upper Octal = false
 is_upper Lower = false
 is_upper Upper = true
 
--- The first of the letters that are digits in hexadecimal.
+-- The first of the letters that are digits in hexadecimal: `a` of the small ones, `A` of the capitals.
 abbrev pub first_letter : Bool → ℕ
 first_letter false = 97
 first_letter true = 65
