@@ -1,13 +1,13 @@
 -- Eight digits at once.
-use Rattle.std.proofs.Common.{◌≡◌, ◌<◌, ◌^◌, ◌+◌, ◌-◌, ◌*◌, ◌%◌, ◌&&◌, ◌||◌, ℕ, Bool, true, false, cond, eqb, leb, ltb, List, [], ◌∷◌, length, map, refl, sym, ap, ap₂, subst, ◌∙◌, arith, Fits, w32, w8}
+use Rattle.std.proofs.Common.{◌≡◌, ◌<◌, ◌^◌, ◌+◌, ◌-◌, ◌*◌, ◌%◌, ◌&&◌, ◌||◌, ℕ, Bool, true, false, cond, eqb, leb, ltb, List, [], ◌∷◌, length, replicate, map, refl, sym, ap, ap₂, subst, ◌∙◌, arith, Fits, w32, w8}
 use Rattle.std.proofs.lemmas.Bool.{agree_below, agree_below_at, eqb-true, leb-true, ltb-true}
-use Rattle.std.proofs.lemmas.Simd.{map-map, mask_l-mod}
+use Rattle.std.proofs.lemmas.Simd.{map-map, mask_l-mod, zip2_splat, splat_is_map, zip2_of_maps}
 use Rattle.std.proofs.lemmas.List.{length-map}
 use Rattle.std.specs.Char.{digit_value}
 use Rattle.std.specs.Str.Parse.{AllDigits, digits_value}
 use Rattle.std.proofs.lemmas.Int.Digits.{digits_value-lt}
 use lib.Bits.{bit_and}
-use lib.Lanes.{Each1, Each2, sum_l, products, mask_l, sel_l, top}
+use lib.Lanes.{zip2, Each1, Each2, sum_l, products, mask_l, sel_l, top}
 use Rattle.numerals.specs.Numeral.{place_sum}
 use Rattle.numerals.specs.Laws.{AllOfCase}
 use Rattle.columns.specs.Inner.Shapes.{first_letter, AreDigits, IsDigit}
@@ -128,11 +128,11 @@ eight_are base upper f v n all sum =
     let digits = are_digits base upper f v all in
     record { digits = digits.0; letters = digits.1.0; value = digits_value-text_value base v ∙ ap (place_sum base) digits.1.1 ∙ sum }
 
-pub decimal_eight : (f : ℕ → ℕ) (v : List ℕ) {z : List ℕ} → z ≡ map f v → length v ≡ 8 → Each1 (λ c. is_decimal f c ≡ true) v → AreDigits 10 false v (sum_l (products z decimal_places))
+decimal_eight : (f : ℕ → ℕ) (v : List ℕ) {z : List ℕ} → z ≡ map f v → length v ≡ 8 → Each1 (λ c. is_decimal f c ≡ true) v → AreDigits 10 false v (sum_l (products z decimal_places))
 decimal_eight f v lanes long all =
     eight_are 10 false f v _ (decimal_digits f v all) (decimal_sum (map f v) (length-map v f ∙ long) ∙ ap (λ (ds : List ℕ). sum_l (products ds decimal_places)) (sym lanes))
 
-pub hexadecimal_eight : (upper : Bool) (f : ℕ → ℕ) (v : List ℕ) {z : List ℕ} → z ≡ map f v → length v ≡ 8 → Each1 (λ c. is_hexadecimal upper f c ≡ true) v → AreDigits 16 upper v (sum_l (products z hexadecimal_places))
+hexadecimal_eight : (upper : Bool) (f : ℕ → ℕ) (v : List ℕ) {z : List ℕ} → z ≡ map f v → length v ≡ 8 → Each1 (λ c. is_hexadecimal upper f c ≡ true) v → AreDigits 16 upper v (sum_l (products z hexadecimal_places))
 hexadecimal_eight upper f v lanes long all =
     eight_are 16 upper f v _ (hexadecimal_digits upper f v all) (hexadecimal_sum (map f v) (length-map v f ∙ long) ∙ ap (λ (ds : List ℕ). sum_l (products ds hexadecimal_places)) (sym lanes))
 
@@ -175,14 +175,14 @@ is_figure_lane c = top 7 (below (figure_lane c) 10)
 abbrev pub digit_lane : ℕ → ℕ → ℕ
 digit_lane letter c = cond (is_figure_lane c) (figure_lane c) (plus (less c letter) 10)
 
-pub decimal_all : (v : List ℕ) {z : List ℕ} → length v ≡ 8 → Each1 (Fits w8) v → z ≡ map other_lane v → mask_l (map (top 7) z) % 2 ^ 64 ≡ 0 → Each1 (λ c. is_decimal figure_lane c ≡ true) v
+decimal_all : (v : List ℕ) {z : List ℕ} → length v ≡ 8 → Each1 (Fits w8) v → z ≡ map other_lane v → mask_l (map (top 7) z) % 2 ^ 64 ≡ 0 → Each1 (λ c. is_decimal figure_lane c ≡ true) v
 decimal_all v long fits lanes none = all_good (is_decimal figure_lane) other_lane v lanes long fits none refl
 
 letter_bytes : (upper : Bool) → agree_below (λ x. top 7 (neither_lane (first_letter upper) x) || is_hexadecimal upper (digit_lane (first_letter upper)) x) (λ _. true) 256 ≡ true
 letter_bytes false = refl
 letter_bytes true = refl
 
-pub hexadecimal_all : (upper : Bool) (letter : ℕ) → letter ≡ first_letter upper → (v : List ℕ) {z : List ℕ} → length v ≡ 8 → Each1 (Fits w8) v → z ≡ map (neither_lane letter) v → mask_l (map (top 7) z) % 2 ^ 64 ≡ 0 → Each1 (λ c. is_hexadecimal upper (digit_lane letter) c ≡ true) v
+hexadecimal_all : (upper : Bool) (letter : ℕ) → letter ≡ first_letter upper → (v : List ℕ) {z : List ℕ} → length v ≡ 8 → Each1 (Fits w8) v → z ≡ map (neither_lane letter) v → mask_l (map (top 7) z) % 2 ^ 64 ≡ 0 → Each1 (λ c. is_hexadecimal upper (digit_lane letter) c ≡ true) v
 hexadecimal_all upper letter is v long fits lanes none =
     all_good (is_hexadecimal upper (digit_lane letter)) (neither_lane letter) v lanes long fits none
     (subst (λ l. agree_below (λ x. top 7 (neither_lane l x) || is_hexadecimal upper (digit_lane l) x) (λ _. true) 256 ≡ true) (sym is) (letter_bytes upper))
@@ -193,10 +193,35 @@ chosen_of : (p : ℕ → Bool) (f g : ℕ → ℕ) (v : List ℕ) → sel_l (map
 chosen_of p f g [] = refl
 chosen_of p f g (c ∷ cs) = ap (λ (r : List ℕ). cond (p c) (f c) (g c) ∷ r) (chosen_of p f g cs)
 
-pub chosen : (p : ℕ → Bool) (f g : ℕ → ℕ) (v : List ℕ) {ms : List Bool} {a b : List ℕ} → ms ≡ map p v → a ≡ map f v → b ≡ map g v → sel_l ms a b ≡ map (λ c. cond (p c) (f c) (g c)) v
+chosen : (p : ℕ → Bool) (f g : ℕ → ℕ) (v : List ℕ) {ms : List Bool} {a b : List ℕ} → ms ≡ map p v → a ≡ map f v → b ≡ map g v → sel_l ms a b ≡ map (λ c. cond (p c) (f c) (g c)) v
 chosen p f g v ms a b = (λ i. sel_l (ms i) (a i) (b i)) ∙ chosen_of p f g v
 
 -- nothing is read
 
 pub no_digits : (base : ℕ) (upper : Bool) → AreDigits base upper [] 0
 no_digits base upper = record { digits = tt; letters = tt; value = refl }
+
+-- from the mask to the number
+
+pub decimal_of_lanes : (v : List ℕ) → length v ≡ 8 → Each1 (Fits w8) v
+    → mask_l (map (top 7) (zip2 at_most (replicate 8 10) (zip2 less v (replicate 8 48)))) % 2 ^ 64 ≡ 0
+    → AreDigits 10 false v (sum_l (products (zip2 less v (replicate 8 48)) decimal_places))
+decimal_of_lanes v long fits none =
+    let figures : zip2 less v (replicate 8 48) ≡ map figure_lane v = zip2_splat less v 8 48 long in
+    let others : zip2 at_most (replicate 8 10) (zip2 less v (replicate 8 48)) ≡ map other_lane v = zip2_of_maps at_most (λ _. 10) figure_lane v (splat_is_map v 8 10 long) figures in
+    decimal_eight figure_lane v figures long (decimal_all v long fits others none)
+
+pub hexadecimal_of_lanes : (upper : Bool) (letter : ℕ) → letter ≡ first_letter upper → (v : List ℕ) → length v ≡ 8 → Each1 (Fits w8) v
+    → mask_l (map (top 7) (zip2 bit_and (zip2 at_most (replicate 8 10) (zip2 less v (replicate 8 48))) (zip2 at_most (replicate 8 6) (zip2 less v (replicate 8 letter))))) % 2 ^ 64 ≡ 0
+    → AreDigits 16 upper v (sum_l (products (sel_l (map (top 7) (zip2 below (zip2 less v (replicate 8 48)) (replicate 8 10))) (zip2 less v (replicate 8 48)) (zip2 plus (zip2 less v (replicate 8 letter)) (replicate 8 10))) hexadecimal_places))
+hexadecimal_of_lanes upper letter is v long fits none =
+    let tens : replicate 8 10 ≡ map (λ _. 10) v = splat_is_map v 8 10 long in
+    let figures : zip2 less v (replicate 8 48) ≡ map figure_lane v = zip2_splat less v 8 48 long in
+    let letters : zip2 less v (replicate 8 letter) ≡ map (λ c. less c letter) v = zip2_splat less v 8 letter long in
+    let others : zip2 bit_and (zip2 at_most (replicate 8 10) (zip2 less v (replicate 8 48))) (zip2 at_most (replicate 8 6) (zip2 less v (replicate 8 letter))) ≡ map (neither_lane letter) v =
+    zip2_of_maps bit_and other_lane (λ c. at_most 6 (less c letter)) v (zip2_of_maps at_most (λ _. 10) figure_lane v tens figures) (zip2_of_maps at_most (λ _. 6) (λ c. less c letter) v (splat_is_map v 8 6 long) letters) in
+    let chosen_by : map (top 7) (zip2 below (zip2 less v (replicate 8 48)) (replicate 8 10)) ≡ map is_figure_lane v =
+    ap (map (top 7)) (zip2_of_maps below figure_lane (λ _. 10) v figures tens) ∙ map-map (top 7) (λ c. below (figure_lane c) 10) v in
+    hexadecimal_eight upper (digit_lane letter) v
+    (chosen is_figure_lane figure_lane (λ c. plus (less c letter) 10) v chosen_by figures (zip2_of_maps plus (λ c. less c letter) (λ _. 10) v letters tens))
+    long (hexadecimal_all upper letter is v long fits others none)
