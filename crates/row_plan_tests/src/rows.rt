@@ -136,7 +136,7 @@ fn a_text_is_used_again(rt: HostRuntime) -> Result<(), Fail> {
     Ok(())
 }
 
-/// A scanning format that was cut before is used again.
+/// A scanning format that was cut before is used for each row.
 #[test]
 fn a_format_is_used_again(rt: HostRuntime) -> Result<(), Fail> {
     let alloc = rt.alloc();
@@ -145,11 +145,12 @@ fn a_format_is_used_again(rt: HostRuntime) -> Result<(), Fail> {
         .ok()
         .ok_or("no memory")?;
     let mut again = String::new(alloc);
-    let values = plan
-        .read_row_by(alloc, &format, "9", &mut again)
-        .ok()
-        .ok_or("not a row")?;
-    assert_eq!(rt; values.as_slice(), [Value::U8(9)].as_slice());
-    assert_eq!(rt; again.as_str(), "9");
+    'rows: for (line, number) in [("9", 9), ("12", 12)] {
+        let values = plan
+            .read_row_by(alloc, &format, line, &mut again)
+            .ok()
+            .ok_or("not a row")?;
+        assert_eq!(rt; values.as_slice(), [Value::U8(number)].as_slice());
+    }
     Ok(())
 }
