@@ -50,6 +50,19 @@ const ROWS: &str = "\
     u8 u8\t%02x%02x\tff0:\tno\n\
     u8 u16\t%03o%06o\t377177777\t377=255 177777=65535\n\
     u8 u64\t%#04x%020u\t0xff18446744073709551615\t0xff=255 18446744073709551615=18446744073709551615\n\
+    u64\t%d:\t12345678:\t12345678=12345678\n\
+    u64\t%d:\t1234567:\t1234567=1234567\n\
+    u64\t%d/\t1234567/\t1234567=1234567\n\
+    u32\t%x\tfedcba98\tfedcba98=4275878552\n\
+    u32\t%X\tFEDCBA98\tFEDCBA98=4275878552\n\
+    u32\t%08x\tfedcbag8\tno\n\
+    u32\t%08x\tfedcba`8\tno\n\
+    u32\t%08X\tFEDCBA@8\tno\n\
+    u32\t%08X\tFEDCBAG8\tno\n\
+    word u8\t%s %d\tabcdefghijklmnop 7\tabcdefghijklmnop=0 7=7\n\
+    word u8\t%s %d\tabcdefgh\u{1}jklmnopqr 7\tabcdefgh\u{1}jklmnopqr=0 7=7\n\
+    word\t%s\tstraße-straße-straße\tstraße-straße-straße=0\n\
+    word\t%s\tabcdefghijklmnopq r\tno\n\
     u8\t%4x\t  ff\tnone\n\
     char\t%c\ta\tnone\n\
     u8\t%-4d\t7   \tnone\n\
