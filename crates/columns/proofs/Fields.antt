@@ -20,7 +20,8 @@ use Rattle.sprintf.specs.Meaning.{by_conversion}
 use Rattle.values.specs.declared.kind.Kind.{Kind}
 use Rattle.values.specs.declared.kind.Kind.TheVariants.{U8, U16, U32, U64, Usize}
 use Rattle.values.specs.Datum.{Datum, natural, IsOfKind}
-use Rattle.row_format.specs.Columns.{field_text, text_or_none}
+use Rattle.row_format.specs.Columns.{field_text}
+use Rattle.row_format.specs.Inner.Elements.{text_or_none}
 use Rattle.row_format.specs.Fit.{IsFit}
 use Rattle.columns.specs.Fields.{token_text}
 use Rattle.tokens.specs.Tokens.{datum_at}

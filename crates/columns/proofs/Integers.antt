@@ -17,7 +17,8 @@ use Rattle.sprintf.specs.Meaning.{by_conversion}
 use Rattle.values.specs.declared.kind.Kind.{Kind}
 use Rattle.values.specs.declared.kind.Kind.TheVariants.{I8, I16, I32, I64, Isize}
 use Rattle.values.specs.Datum.{Datum, integer, IsOfKind}
-use Rattle.row_format.specs.Columns.{field_text, text_or_none}
+use Rattle.row_format.specs.Columns.{field_text}
+use Rattle.row_format.specs.Inner.Elements.{text_or_none}
 use Rattle.row_format.specs.Fit.{IsFit}
 use Rattle.columns.specs.Fields.{token_text}
 use Rattle.columns.specs.Inner.Serves.{Serves, IsServed, IsGreatestSigned}

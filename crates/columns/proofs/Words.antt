@@ -24,7 +24,7 @@ use Rattle.scan_fmt.specs.Grammar.{first, is_blank, Until}
 use Rattle.scan_fmt.specs.Scanned.{Suits}
 use Rattle.values.specs.declared.kind.Kind.{Kind}
 use Rattle.values.specs.declared.kind.Kind.TheVariants.{Word as WordKind}
-use Rattle.row_format.specs.Columns.{text_or_none}
+use Rattle.row_format.specs.Inner.Elements.{text_or_none}
 use Rattle.columns.specs.Fields.{token_text}
 use Rattle.columns.specs.Inner.Serves.{Serves, IsStop}
 use Rattle.columns.specs.Inner.Shapes.{IsWordByte, IsTaken}

@@ -6,7 +6,8 @@ use Rattle.sprintf.specs.declared.parser.FormatElement.{FormatElement}
 use Rattle.sprintf.specs.declared.parser.FormatElement.TheVariants.{Verbatim, Format}
 use Rattle.sprintf.proofs.Uniqueness.{one_element_list}
 use Rattle.values.specs.declared.kind.Kind.{Kind}
-use Rattle.row_format.specs.Columns.{Column, Columns, columns_of, with_text, with_field, is_percent}
+use Rattle.row_format.specs.Columns.{Column, Columns, columns_of, with_text, is_percent}
+use Rattle.row_format.specs.Inner.Elements.{with_field}
 use Rattle.row_format.specs.Plannable.{IsUnpaired, IsLossy, RunsOn, Never, FirstAt, IsPlannable}
 use Rattle.separation.specs.declared.Refused.{Refused}
 use Rattle.separation.specs.declared.Refused.TheVariants.{Kind as OfKind, Lossy, RunsOn as OfRunsOn}

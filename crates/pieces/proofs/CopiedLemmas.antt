@@ -1,7 +1,8 @@
 -- Values that rows have as they are printed.
 use Rattle.std.proofs.Common.{◌≡◌, ℕ, zero, suc, ◌+◌, ◌<◌, List, [], ◌∷◌, ◌++◌, length, get_or, drop, refl, sym, ap, subst, ◌∙◌, slice_get, Option, Some, append-nil, append_assoc}
 use Rattle.values.specs.declared.kind.Kind.{Kind}
-use Rattle.row_format.specs.Columns.{Column, text_or_none}
+use Rattle.row_format.specs.Columns.{Column}
+use Rattle.row_format.specs.Inner.Elements.{text_or_none}
 use Rattle.tokens.specs.declared.Token.{Token}
 use Rattle.tokens.specs.Tokens.{AreTokens, IsToken}
 use Rattle.columns.specs.Fields.{AreFieldsAt, IsFieldAt}

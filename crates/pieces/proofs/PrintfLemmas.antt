@@ -22,7 +22,7 @@ use Rattle.sprintf.specs.Text.{field_by, field_text, onto, param_of, printed, st
 use Rattle.values.specs.declared.kind.Kind.{Kind}
 use Rattle.values.specs.declared.kind.Kind.TheVariants as Of
 use Rattle.values.specs.Datum.{printf_meaning}
-use Rattle.row_format.specs.Columns.{text_or_none}
+use Rattle.row_format.specs.Inner.Elements.{text_or_none}
 use Rattle.tokens.specs.declared.Token.{Token}
 use Rattle.tokens.specs.Tokens.{IsToken, datum_at}
 use Rattle.pieces.specs.declared.layout.Form.{Form}

@@ -1,7 +1,7 @@
 // What a field of a printf format prints of a token.
 ghost use Rattle.std.specs.Prelude.{◌≡◌, ◌++◌, IsTrue, OnErr, OnOk, string_bytes};
 ghost use Rattle.sprintf.specs.Values.{arg_meaning};
-ghost use Rattle.row_format.specs.Columns.{text_or_none};
+ghost use Rattle.std.specs.Result.{result_unwrap_or};
 ghost use Rattle.pieces.specs.Inner.Layout.{IsTokenOfSome};
 ghost use Rattle.pieces.specs.Inner.Source.{IsComplement, source_meaning, source_of, decimal_source, bits_source, word_source};
 
@@ -119,7 +119,7 @@ pub(crate) fn append_printed(
     field: &ConversionSpecifier,
     out: &mut String,
 ) -> Result<(), AllocError>
-    ensures ok { OnOk result (string_bytes out.new ≡ string_bytes out.old ++ text_or_none ((arg_meaning value.now).text field.now)) }
+    ensures ok { OnOk result (string_bytes out.new ≡ string_bytes out.old ++ result_unwrap_or ((arg_meaning value.now).text field.now) []) }
     ensures unchanged { OnErr result (string_bytes out.new ≡ string_bytes out.old) }
 {
     let alloc = *out.allocator();

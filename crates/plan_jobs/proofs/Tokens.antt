@@ -6,7 +6,8 @@ use Rattle.std.proofs.lemmas.Str.{IsUtf8-between}
 use Rattle.std.proofs.lemmas.List.Elements.{All-from_recursion}
 use Rattle.scan_fmt.specs.declared.slices.Piece.{Piece}
 use Rattle.scan_fmt.specs.Scanned.{Token}
-use Rattle.scan_fmt.specs.Slices.{piece_text, ArePieces, ScannedPieces, Sliced, slices_left}
+use Rattle.scan_fmt.specs.Slices.{piece_text, ScannedPieces, Sliced, slices_left}
+use Rattle.scan_fmt.specs.Inner.Parts.{ArePieces}
 use Rattle.plan_jobs.specs.Scan.{AreTokens}
 
 texts_of : (input : List ℕ) (pieces : List Piece) (tokens : List Token) → ArePieces input pieces tokens → map chars (map (piece_text input) pieces) ≡ map (λ (t : Token). t.text) tokens
@@ -22,7 +23,7 @@ utf8_of : (input : List ℕ) (pieces : List Piece) (tokens : List Token) → IsU
 utf8_of input [] [] u are = tt
 utf8_of input [] (t ∷ ts) u are = absurd are
 utf8_of input (p ∷ ps) [] u are = absurd are
-utf8_of input (p ∷ ps) (t ∷ ts) u are = (IsUtf8-between input p.start p.end u are.0.slice.forward are.0.slice.starts are.0.slice.ends, utf8_of input ps ts u are.1)
+utf8_of input (p ∷ ps) (t ∷ ts) u are = (IsUtf8-between input p.start p.end u are.0.forward are.0.starts are.0.ends, utf8_of input ps ts u are.1)
 
 all_tokens : (text line : List ℕ) (pieces : List Piece) → IsUtf8 line → ScannedPieces line (chars text) pieces → AreTokens text line (map (piece_text line) pieces)
 all_tokens text line pieces u scanned = record {

@@ -3,9 +3,9 @@ use Rattle.std.proofs.lemmas.List.{append-nil, take_rest}
 use Rattle.std.proofs.Common.{◌≡◌, ◌≤◌, ◌++◌, ℕ, length, take, drop, ◌-◌, get_or, arith, Bool, true, false, if◌then◌else◌, List, [], ◌∷◌, codes, None, Some, refl, ap, sym, ◌∙◌, append_assoc}
 use Rattle.sprintf.specs.declared.parser.FormatElement.{FormatElement}
 use Rattle.sprintf.specs.declared.parser.FormatElement.TheVariants.{Verbatim, Format}
-use Rattle.row_format.specs.Columns.{Column, Columns, is_percent, with_text, with_field, columns_of}
+use Rattle.row_format.specs.Columns.{Column, Columns, is_percent, with_text, columns_of}
 use Rattle.row_format.specs.Laws.{AreTexts}
-use Rattle.row_format.specs.Inner.Elements.{literal_of, BeginsWithField, column_of}
+use Rattle.row_format.specs.Inner.Elements.{literal_of, BeginsWithField, column_of, with_field}
 
 pub text_onto_text : (a b : List ℕ) (format : Columns) → with_text a (with_text b format) ≡ with_text (a ++ b) format
 text_onto_text a b format = ap (λ (head : List ℕ). record { head = head; columns = format.columns }) (sym (append_assoc a b format.head))

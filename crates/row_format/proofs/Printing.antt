@@ -14,7 +14,8 @@ use Rattle.sprintf.specs.Text.{printed, field_by, then_with, wanted_by, param_of
 use Rattle.values.specs.declared.kind.Kind.{Kind}
 use Rattle.values.specs.declared.kind.Kind.TheVariants.{U8, U16, U32, U64, Usize, I8, I16, I32, I64, Isize, Word, Char as CharKind}
 use Rattle.values.specs.Datum.{Datum, natural, integer, word, character, IsOfKind, printf_meaning, each_of}
-use Rattle.row_format.specs.Columns.{Column, is_percent, columns_of, with_text, with_field, text_or_none, columns_text, row_text}
+use Rattle.row_format.specs.Columns.{Column, is_percent, columns_of, with_text, columns_text, row_text}
+use Rattle.row_format.specs.Inner.Elements.{with_field, text_or_none}
 use Rattle.row_format.specs.Fit.{AreFit}
 use Rattle.row_format.specs.Laws.{PrintsColumns}
 use Rattle.row_format.specs.Plannable.{is_number, Converts, IsPaired, IsUnpaired, Never}

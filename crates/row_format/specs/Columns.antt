@@ -1,6 +1,6 @@
 -- A printf format as columns: each field with the literal text behind it.
-use Rattle.std.specs.Prelude.{ℕ, List, [], ◌∷◌, ◌++◌, Bool, true, false, if◌then◌else◌, codes, Result, Ok, Err, unwrap_or}
-use Rattle.sprintf.specs.declared.PrintfError.{PrintfError}
+use Rattle.std.specs.Prelude.{ℕ, List, [], ◌∷◌, ◌++◌, Bool, true, false, if◌then◌else◌, codes, unwrap_or}
+use Rattle.std.specs.Result.{result_unwrap_or}
 use Rattle.sprintf.specs.declared.parser.ConversionSpecifier.{ConversionSpecifier}
 use Rattle.sprintf.specs.declared.parser.ConversionType.{ConversionType}
 use Rattle.sprintf.specs.declared.parser.ConversionType.TheVariants.{PercentSign}
@@ -29,24 +29,15 @@ is_percent _ = false
 abbrev pub with_text : List ℕ → Columns → Columns
 with_text text format = record { head = text ++ format.head; columns = format.columns }
 
--- A field in front has the head behind it.
-abbrev pub with_field : ConversionSpecifier → Columns → Columns
-with_field f format = record { head = []; columns = record { field = f; after = format.head } ∷ format.columns }
-
--- The columns of a list of elements.
+-- The columns of a list of elements: a field in front has the head behind it.
 abbrev pub columns_of : List FormatElement → Columns
 columns_of [] = record { head = []; columns = [] }
 columns_of (Verbatim s ∷ es) = with_text s.now (columns_of es)
-columns_of (Format f ∷ es) = if is_percent f.conversion_type then with_text (codes "%") (columns_of es) else with_field f (columns_of es)
+columns_of (Format f ∷ es) = if is_percent f.conversion_type then with_text (codes "%") (columns_of es) else record { head = []; columns = record { field = f; after = (columns_of es).head } ∷ (columns_of es).columns }
 
--- The text of an answer; a refusal has none.
-abbrev pub text_or_none : Result (List ℕ) PrintfError → List ℕ
-text_or_none (Ok text) = text
-text_or_none (Err e) = []
-
--- The text of a field over a value of the kind.
+-- The text of a field over a value of the kind; a refusal has none.
 abbrev pub field_text : ConversionSpecifier → Kind → Datum → List ℕ
-field_text f kind value = text_or_none ((printf_meaning kind value).text f)
+field_text f kind value = result_unwrap_or ((printf_meaning kind value).text f) []
 
 -- The text of columns over values of these kinds: for each the field's, and then the literal text behind it.
 abbrev pub columns_text : List Column → List Kind → List Datum → List ℕ

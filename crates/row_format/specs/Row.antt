@@ -2,10 +2,11 @@
 use Rattle.std.specs.Prelude.{◌≡◌, ◌<◌, ℕ, List, [], ◌∷◌, length, Some, ⊤}
 use Rattle.std.specs.Int.{w8, w16, w32, w64, cast_unsigned}
 use Rattle.std.specs.Str.{chars}
+use Rattle.std.specs.Str.Parse.{ParsesUnsigned, ParsesSigned}
 use Rattle.numerals.specs.Numeral.{IsDigitText, text_value}
 use Rattle.sprintf.specs.declared.parser.ConversionType.{ConversionType}
 use Rattle.sprintf.specs.declared.parser.ConversionType.TheVariants.{DecInt, OctInt, HexIntLower, HexIntUpper, Char, String}
-use Rattle.scan_fmt.specs.Values.{ReadsUnsigned, ReadsSigned}
+use Rattle.scan_fmt.specs.Values.{ReadsBy}
 use Rattle.values.specs.declared.kind.Kind.{Kind}
 use Rattle.values.specs.Datum.{Datum, natural, integer, word, character, IsOfKind}
 use Rattle.row_format.specs.Columns.{Column, Columns, row_text}
@@ -25,8 +26,8 @@ StandsFor base kind token _ = ⊥
 
 -- The token of a decimal field reads as std reads it.
 abbrev pub ReadsDecimal : Kind → List ℕ → Datum → Type 0
-ReadsDecimal kind token (natural n) = ReadsUnsigned (by_bits 8 16 32 64 kind) 10 token (Some n)
-ReadsDecimal kind token (integer z) = ReadsSigned (by_bits w8 w16 w32 w64 kind) 10 token (Some z)
+ReadsDecimal kind token (natural n) = ReadsBy (ParsesUnsigned (by_bits 8 16 32 64 kind) 10) token (Some n)
+ReadsDecimal kind token (integer z) = ReadsBy (ParsesSigned (by_bits w8 w16 w32 w64 kind) 10) token (Some z)
 ReadsDecimal kind token _ = ⊥
 
 -- The token of a text's field is the word, which isn't empty, or the one character.

@@ -12,7 +12,8 @@ use Rattle.sprintf.specs.Field.{prefix_of}
 use Rattle.sprintf.specs.declared.parser.ConversionSpecifier.{ConversionSpecifier}
 use Rattle.sprintf.specs.declared.parser.ConversionType.{ConversionType}
 use Rattle.sprintf.specs.declared.parser.ConversionType.TheVariants.{DecInt, OctInt, HexIntLower, HexIntUpper, Char, String}
-use Rattle.scan_fmt.specs.Grammar.{is_blank, after_blanks, first, letter, limit_of, Notation, Decimal, Hexadecimal, Number, Directive, Exactly, Field, Cuts}
+use Rattle.scan_fmt.specs.Grammar.{is_blank, after_blanks, first, limit_of, Notation, Decimal, Hexadecimal, Float, Number, Directive, Exactly, Field, Cuts}
+use Rattle.scan_fmt.specs.Inner.Fields.{letter}
 use Rattle.values.specs.declared.kind.Kind.{Kind}
 use Rattle.values.specs.declared.kind.Kind.TheVariants.{U8, U16, U32, U64, Usize, I8, I16, I32, I64, Isize, Word, Char as CharKind}
 use Rattle.row_format.specs.Columns.{Column, Columns, width_of}
@@ -62,8 +63,12 @@ limit_is n fits =
 
 cuts_letter : (notation : Notation) (limit : Option ℕ) (digits format : List ℕ) (ds : List Directive) → AllDigits 10 digits → limit ≡ limit_of digits → Cuts format ds
     → Cuts ((((123 ∷ digits) ++ (letter notation ∷ [])) ++ (125 ∷ [])) ++ format) (Field true (Number notation limit) ∷ ds)
-cuts_letter notation limit digits format ds each is cut =
-    (format, (((digits ++ (letter notation ∷ [])) ++ (125 ∷ [])) ++ format, refl, (digits, simp append_assoc, each, is)), cut)
+cuts_letter Decimal limit digits format ds each is cut =
+    (format, (((digits ++ (letter Decimal ∷ [])) ++ (125 ∷ [])) ++ format, refl, (digits, simp append_assoc, each, is)), cut)
+cuts_letter Hexadecimal limit digits format ds each is cut =
+    (format, (((digits ++ (letter Hexadecimal ∷ [])) ++ (125 ∷ [])) ++ format, refl, (digits, simp append_assoc, each, is)), cut)
+cuts_letter Float limit digits format ds each is cut =
+    (format, (((digits ++ (letter Float ∷ [])) ++ (125 ∷ [])) ++ format, refl, (digits, simp append_assoc, each, is)), cut)
 
 -- A number's field.
 cuts_number : (notation : Notation) (exact : Bool) (n : ℕ) (format : List ℕ) (ds : List Directive) → (exact ≡ true → IsLimit n) → Cuts format ds

@@ -1,5 +1,5 @@
 -- What the planned directives take from a printed row, column by column.
-use Rattle.std.proofs.Common.{eqb, cond, ◌≡◌, ◌<◌, ◌⊎◌, ◌-◌, ℕ, Bool, true, false, List, [], ◌∷◌, ◌++◌, map, Option, Some, None, sym, ap, subst, refl, inl, inr, ◌∙◌, arith, append_assoc}
+use Rattle.std.proofs.Common.{eqb, cond, ◌≡◌, ◌<◌, ◌⊎◌, ◌-◌, ℕ, Bool, true, false, List, [], ◌∷◌, ◌++◌, map, Option, Some, None, sym, ap, subst, refl, inl, inr, ◌∙◌, arith, append_assoc, Ok, Err}
 use Rattle.std.specs.Char.{digit_value}
 use Rattle.std.specs.List.{AllByRecursion, list_all}
 use Rattle.std.specs.Str.{chars, IsUtf8, IsAscii}
@@ -7,7 +7,8 @@ use Rattle.std.proofs.lemmas.Bool.{cases_Bool, and_parts, eqb-true}
 use Rattle.std.proofs.lemmas.Bool.Decides.{nat_tests}
 use Rattle.std.proofs.lemmas.Str.{chars-append, chars-IsAscii, IsUtf8-append, IsUtf8-nil}
 use Rattle.scan_fmt.specs.Grammar.{is_blank, Directive, Exactly, Field, Shape, Number, Hexadecimal}
-use Rattle.scan_fmt.specs.Scanned.{IsLongest, MayTake, Token, token_text, Outcome, Found, passed, Takes}
+use Rattle.scan_fmt.specs.Scanned.{IsLongest, MayTake, Token, token_text, passed, Takes}
+use Rattle.scan_fmt.specs.Inner.Parts.{Outcome, with_token}
 use Rattle.scan_fmt.proofs.Characters.{ascii_from}
 use Rattle.scan_fmt.proofs.Digits.{Form, bare, with_x, with_0x, form_of, each_weaker}
 use Rattle.sprintf.specs.declared.parser.ConversionType.{ConversionType}
@@ -23,6 +24,10 @@ use Rattle.row_laws.specs.Inner.Directives.{exactly, limit_when, shape_by, shape
 use Rattle.row_laws.proofs.Cutting.{paired_of}
 use Rattle.row_laws.proofs.Texts.{field_utf8}
 
+none_in_front : (out : Outcome) → with_token None out ≡ out
+none_in_front (Ok tokens) = refl
+none_in_front (Err input) = refl
+
 -- White space in front changes nothing.
 takes_blank : (c : ℕ) (input : List ℕ) (ds : List Directive) (out : Outcome) → is_blank c ≡ true → Takes ds input out → Takes ds (c ∷ input) out
 takes_blank c input [] out h take = take
@@ -33,7 +38,7 @@ takes_blanks [] input ds out h take = take
 takes_blanks (c ∷ blanks) input ds out h take = takes_blank c (blanks ++ input) ds out h.0 (takes_blanks blanks input ds out h.1 take)
 
 takes_solid : (c : ℕ) (input : List ℕ) (ds : List Directive) (out : Outcome) → is_blank c ≡ false → Takes ds input out → Takes (Exactly c ∷ ds) (c ∷ input) out
-takes_solid c input ds out h take = rw h (passed (λ e. absurd (cc)) None input out (refl, refl) take refl)
+takes_solid c input ds out h take = rw h (passed (λ e. absurd (cc)) None input out (refl, refl) take (sym (none_in_front out)))
 
 takes_char : (c : ℕ) (cs input : List ℕ) (ds : List Directive) (out : Outcome) → Takes (exactly cs ++ ds) input out → Takes (exactly (c ∷ cs) ++ ds) (c ∷ input) out
 takes_char c cs input ds out take = by_test (is_blank c) refl where
@@ -47,12 +52,12 @@ takes_exactly [] input ds out take = take
 takes_exactly (c ∷ cs) input ds out take = takes_char c cs (cs ++ input) ds out (takes_exactly cs input ds out take)
 
 -- A field takes its longest front.
-takes_field : (shape : Shape) (taken rest : List ℕ) (ds : List Directive) (tokens : List Token) → BeginsSolid taken → IsLongest (MayTake shape) (taken ++ rest) taken rest → Takes ds rest (Found tokens)
-    → Takes (Field true shape ∷ ds) (taken ++ rest) (Found (record { text = token_text shape taken; behind = rest } ∷ tokens))
+takes_field : (shape : Shape) (taken rest : List ℕ) (ds : List Directive) (tokens : List Token) → BeginsSolid taken → IsLongest (MayTake shape) (taken ++ rest) taken rest → Takes ds rest (Ok tokens)
+    → Takes (Field true shape ∷ ds) (taken ++ rest) (Ok (record { text = token_text shape taken; behind = rest } ∷ tokens))
 takes_field shape [] rest ds tokens solid long take = absurd solid
 takes_field shape (c ∷ cs) rest ds tokens solid long take =
     let here : is_blank c ≡ false = solid in
-    rw here (passed (λ e. absurd (cc)) (Some (record { text = token_text shape (c ∷ cs); behind = rest })) rest (Found tokens) (c ∷ cs, long, refl) take refl)
+    rw here (passed (λ e. absurd (cc)) (Some (record { text = token_text shape (c ∷ cs); behind = rest })) rest (Ok tokens) (c ∷ cs, long, refl) take refl)
 
 -- The spaces that end a text are white space.
 all_spaces : (xs : List ℕ) → list_all (λ x. eqb x 32) xs ≡ true → AllByRecursion (λ c. c ≡ 32) xs
@@ -101,27 +106,27 @@ regroup blanks front taken trail more = simp append_assoc
 
 -- A field that is taken, and the literal text behind it.
 column_takes : (c : Column) (kind : Kind) (value : Datum) (more : List ℕ) (ds : List Directive) (tokens : List Token) → IsUtf8 (field_text c.field kind value) → IsUtf8 c.after
-    → Taken c kind value (chars (c.after ++ more)) → Takes ds (chars more) (Found tokens)
+    → Taken c kind value (chars (c.after ++ more)) → Takes ds (chars more) (Ok tokens)
     → (token : Token) × Reads c.field.conversion_type kind token.text value
-    × Takes (exactly (front_of c) ++ (Field true (shape_of c kind) ∷ (exactly (chars c.after) ++ ds))) (chars (field_text c.field kind value ++ (c.after ++ more))) (Found (token ∷ tokens))
+    × Takes (exactly (front_of c) ++ (Field true (shape_of c kind) ∷ (exactly (chars c.after) ++ ds))) (chars (field_text c.field kind value ++ (c.after ++ more))) (Ok (token ∷ tokens))
 column_takes c kind value more ds tokens field after t take =
     let behind = chars (c.after ++ more) in
     let trail = chars (trailing_spaces (field_text c.field kind value)) in
     let later = exactly (chars c.after) ++ ds in
     let token : Token = record { text = token_text (shape_of c kind) t.taken; behind = trail ++ behind } in
-    let literal : Takes later behind (Found tokens) = subst (λ (input : List ℕ). Takes later input (Found tokens)) (sym (chars-append c.after more after)) (takes_exactly (chars c.after) (chars more) ds (Found tokens) take) in
-    let spaces : Takes later (trail ++ behind) (Found tokens) = takes_blanks trail behind later (Found tokens) (trailing_blank (field_text c.field kind value)) literal in
+    let literal : Takes later behind (Ok tokens) = subst (λ (input : List ℕ). Takes later input (Ok tokens)) (sym (chars-append c.after more after)) (takes_exactly (chars c.after) (chars more) ds (Ok tokens) take) in
+    let spaces : Takes later (trail ++ behind) (Ok tokens) = takes_blanks trail behind later (Ok tokens) (trailing_blank (field_text c.field kind value)) literal in
     let solid : BeginsSolid t.taken = taken_solid c.field.conversion_type kind c.field.alt_form (is_exact c.field kind) (width_of c.field) (stop c) t.taken value t.solid t.longest.shape t.reads in
-    let field_takes : Takes (Field true (shape_of c kind) ∷ later) (t.taken ++ (trail ++ behind)) (Found (token ∷ tokens)) = takes_field (shape_of c kind) t.taken (trail ++ behind) later tokens solid t.longest spaces in
-    let front_takes = takes_exactly (front_of c) (t.taken ++ (trail ++ behind)) (Field true (shape_of c kind) ∷ later) (Found (token ∷ tokens)) field_takes in
-    let all = takes_blanks t.blanks (front_of c ++ (t.taken ++ (trail ++ behind))) (exactly (front_of c) ++ (Field true (shape_of c kind) ∷ later)) (Found (token ∷ tokens)) t.only_blanks front_takes in
+    let field_takes : Takes (Field true (shape_of c kind) ∷ later) (t.taken ++ (trail ++ behind)) (Ok (token ∷ tokens)) = takes_field (shape_of c kind) t.taken (trail ++ behind) later tokens solid t.longest spaces in
+    let front_takes = takes_exactly (front_of c) (t.taken ++ (trail ++ behind)) (Field true (shape_of c kind) ∷ later) (Ok (token ∷ tokens)) field_takes in
+    let all = takes_blanks t.blanks (front_of c ++ (t.taken ++ (trail ++ behind))) (exactly (front_of c) ++ (Field true (shape_of c kind) ∷ later)) (Ok (token ∷ tokens)) t.only_blanks front_takes in
     let is : chars (field_text c.field kind value ++ (c.after ++ more)) ≡ t.blanks ++ (front_of c ++ (t.taken ++ (trail ++ behind))) =
     chars-append (field_text c.field kind value) (c.after ++ more) field ∙ ap (λ (s : List ℕ). s ++ behind) t.whole ∙ regroup t.blanks (front_of c) t.taken trail behind in
-    (token, t.reads, subst (λ (input : List ℕ). Takes (exactly (front_of c) ++ (Field true (shape_of c kind) ∷ later)) input (Found (token ∷ tokens))) (sym is) all)
+    (token, t.reads, subst (λ (input : List ℕ). Takes (exactly (front_of c) ++ (Field true (shape_of c kind) ∷ later)) input (Ok (token ∷ tokens))) (sym is) all)
 
 -- The directives of columns take from the columns' text tokens that read to the values.
 abbrev pub ReadsColumns : List Column → List Kind → List Datum → Type 0
-ReadsColumns cs kinds values = (tokens : List Token) × Takes (column_directives cs kinds) (chars (columns_text cs kinds values)) (Found tokens) × EachReads cs kinds (map (λ (t : Token). t.text) tokens) values
+ReadsColumns cs kinds values = (tokens : List Token) × Takes (column_directives cs kinds) (chars (columns_text cs kinds values)) (Ok tokens) × EachReads cs kinds (map (λ (t : Token). t.text) tokens) values
 
 -- No field runs on over the values at hand.
 apart_here : (c : Column) (kind : Kind) (value : Datum) (cs : List Column) (kinds : List Kind) (values : List Datum) → ¬ RunsOn (c ∷ cs) (kind ∷ kinds) → AreFit (c ∷ cs) (kind ∷ kinds) (value ∷ values)
@@ -147,9 +152,9 @@ columns_take fields (c ∷ cs) (kind ∷ kinds) (value ∷ values) texts pairs w
 
 -- The planned directives take from a row tokens that read to its values.
 pub row_takes : FieldReads → (format : Columns) (kinds : List Kind) (values : List Datum) → IsText format → IsPlannable format.columns kinds → AreFit format.columns kinds values
-    → (tokens : List Token) × Takes (planned_directives format kinds) (chars (row_text format kinds values)) (Found tokens) × EachReads format.columns kinds (map (λ (t : Token). t.text) tokens) values
+    → (tokens : List Token) × Takes (planned_directives format kinds) (chars (row_text format kinds values)) (Ok tokens) × EachReads format.columns kinds (map (λ (t : Token). t.text) tokens) values
 row_takes fields format kinds values text plan fit =
     let rest = columns_take fields format.columns kinds values text.1 plan.paired plan.whole plan.apart fit in
     let more = columns_text format.columns kinds values in
-    let take = takes_exactly (chars format.head) (chars more) (column_directives format.columns kinds) (Found rest.0.0) rest.0.1 in
-    (rest.0.0, subst (λ (input : List ℕ). Takes (planned_directives format kinds) input (Found rest.0.0)) (sym (chars-append format.head more text.0)) take, rest.0.2)
+    let take = takes_exactly (chars format.head) (chars more) (column_directives format.columns kinds) (Ok rest.0.0) rest.0.1 in
+    (rest.0.0, subst (λ (input : List ℕ). Takes (planned_directives format kinds) input (Ok rest.0.0)) (sym (chars-append format.head more text.0)) take, rest.0.2)

@@ -1,7 +1,7 @@
 -- A planned text reads its rows back, once one field does; so no text is the row of two lists of values.
-use Rattle.std.proofs.Common.{◌≡◌, ℕ, List, map, sym, ap, subst, refl, ◌∙◌}
+use Rattle.std.proofs.Common.{◌≡◌, ℕ, List, map, sym, ap, subst, refl, ◌∙◌, Ok}
 use Rattle.std.specs.Str.{chars}
-use Rattle.scan_fmt.specs.Scanned.{Token, Found, Scanned, ScannedTexts}
+use Rattle.scan_fmt.specs.Scanned.{Token, Scanned, ScannedTexts}
 use Rattle.scan_fmt.proofs.OneAnswer.{one_answer}
 use Rattle.scan_fmt.proofs.SomeAnswer.{some_answer}
 use Rattle.row_format.specs.Columns.{row_text}
@@ -19,7 +19,7 @@ reads_back_from fields format kinds values texts text plan fit scanned =
     let input = chars (row_text format kinds values) in
     let own : Scanned input (chars (planned_text format kinds)) row.0 = record {
       directives = planned_directives format kinds;
-      out = Found row.0;
+      out = Ok row.0;
       cut = planned_cut format kinds text plan.paired;
       takes = row.1;
       tokens_are = refl;

@@ -24,7 +24,8 @@ use Rattle.scan_fmt.proofs.Characters.{ascii_from}
 use Rattle.values.specs.declared.kind.Kind.{Kind}
 use Rattle.values.specs.declared.kind.Kind.TheVariants.{U8, U16, U32, U64, Usize, I8, I16, I32, I64, Isize, Word, Char}
 use Rattle.values.specs.Datum.{Datum, natural, integer, word, character}
-use Rattle.row_format.specs.Columns.{Column, field_text, text_or_none}
+use Rattle.row_format.specs.Columns.{Column, field_text}
+use Rattle.row_format.specs.Inner.Elements.{text_or_none}
 use Rattle.row_format.specs.Fit.{IsFit}
 use Rattle.row_format.specs.Plannable.{IsLossy}
 use Rattle.row_laws.proofs.Fields.Printed.{precise}

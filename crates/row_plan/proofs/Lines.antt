@@ -2,7 +2,8 @@
 use Rattle.std.proofs.Common.{◌≡◌, ◌≢◌, ◌≤◌, ◌<◌, ◌+◌, ℕ, List, [], ◌∷◌, ◌++◌, length, map, refl, ap, sym, subst, ◌∙◌, arith, length-append, Result, Ok, Err, IfOk, IfErr, OnOk}
 use Rattle.std.specs.Str.{chars}
 use Rattle.scan_fmt.specs.Scanned.{Token, ScannedTexts}
-use Rattle.scan_fmt.specs.Slices.{piece_text, ArePieces, ScannedPieces, Sliced, slices_left}
+use Rattle.scan_fmt.specs.Slices.{piece_text, ScannedPieces, Sliced, slices_left}
+use Rattle.scan_fmt.specs.Inner.Parts.{ArePieces}
 use Rattle.scan_fmt.specs.declared.slices.Piece.{Piece}
 use Rattle.values.specs.declared.kind.Kind.{Kind}
 use Rattle.values.specs.declared.value.Value.{Value}

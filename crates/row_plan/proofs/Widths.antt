@@ -13,7 +13,8 @@ use Rattle.sprintf.specs.Meaning.{by_conversion}
 use Rattle.values.specs.declared.kind.Kind.{Kind}
 use Rattle.values.specs.declared.kind.Kind.TheVariants.{U8, U16, U32, U64, Usize, I8, I16, I32, I64, Isize, Word, Char}
 use Rattle.values.specs.Datum.{Datum, natural, integer, word, character, IsOfKind, printf_meaning}
-use Rattle.row_format.specs.Columns.{Column, text_or_none, field_text, width_of}
+use Rattle.row_format.specs.Columns.{Column, field_text, width_of}
+use Rattle.row_format.specs.Inner.Elements.{text_or_none}
 use Rattle.row_format.specs.Plannable.{is_number, Converts}
 
 -- an answer is a text of at least this length

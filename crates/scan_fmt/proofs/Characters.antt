@@ -1,7 +1,5 @@
 -- Bytes and characters: cuts of a text, and what stands before them.
-use Rattle.std.proofs.Common.{◌≡◌, ◌≢◌, ◌<◌, ◌≤◌, ◌-◌, ℕ, zero, suc, true, List, [], ◌∷◌, ◌++◌, length, take, sym, ap, subst, refl, ◌∙◌, arith, append_assoc, length-append, encode_utf8, Some, MatchOption, Result, Ok, Err}
-use Rattle.std.specs.Result.{result_ok}
-use Rattle.std.specs.Str.Parse.{ParsesChar}
+use Rattle.std.proofs.Common.{◌≡◌, ◌≢◌, ◌<◌, ◌≤◌, ◌-◌, ℕ, zero, suc, true, List, [], ◌∷◌, ◌++◌, length, take, sym, ap, subst, refl, ◌∙◌, arith, append_assoc, length-append, encode_utf8, Some}
 use Rattle.std.specs.List.{AllByRecursion}
 use Rattle.std.specs.Char.{IsScalar}
 use Rattle.std.specs.Str.{chars, IsUtf8, IsAscii, IsCharBoundary, encode_utf8_all, all_scalars}
@@ -121,10 +119,3 @@ empty_chars (x ∷ text) e = absurd (omega arith)
 
 pub some_chars : (text : List ℕ) → IsUtf8 text → ¬ (length text ≡ 0) → chars text ≢ []
 some_chars text utf8 some none = let e : text ≡ [] = sym (encodes-chars text utf8) ∙ ap encode_utf8_all none in some (ap length e)
-
--- what `parse` says of a character, by the characters of the text
-pub one_char : {E : Type 0} (text : List ℕ) (r : Result ℕ E) → IsUtf8 text → ParsesChar text r → MatchOption (result_ok r) ((c : ℕ) → chars text ≢ c ∷ []) (λ c. chars text ≡ c ∷ [])
-one_char text (Ok c) utf8 is = ap chars is ∙ char_alone c (scalar_of text [] c utf8 (is ∙ sym (append-nil (encode_utf8 c))))
-one_char text (Err e) utf8 none = λ c one.
-    let all : all_scalars (c ∷ []) ≡ true = subst (λ (t : List ℕ). all_scalars t ≡ true) one (scalars-chars text utf8) in
-    none c (and_parts _ _ all).0 (sym (encodes-chars text utf8) ∙ ap encode_utf8_all one ∙ append-nil (encode_utf8 c))

@@ -5,9 +5,9 @@ use Rattle.std.specs.Char.{digit_value}
 use Rattle.std.specs.Str.Parse.{AllDigits}
 use Rattle.std.proofs.lemmas.Bool.{cases_eq, cases_lt, cases_Bool}
 use Rattle.scan_fmt.specs.Sets.{IsListing}
-use Rattle.scan_fmt.specs.Grammar.{Until, Solid, Among, Decimal, Hexadecimal, Float, Characters, Number, Directive, Exactly, Field, Expression, AtEnd, first, star, caret, limit_of, Spells, NoDirective, Cuts, is_blank, after_blanks}
+use Rattle.scan_fmt.specs.Grammar.{Until, Solid, Among, Decimal, Hexadecimal, Float, Characters, Number, Directive, Exactly, Field, Expression, AtEnd, first, star, limit_of, Spells, Cuts, is_blank, after_blanks}
 use Rattle.scan_fmt.specs.Expressions.{expression}
-use Rattle.scan_fmt.specs.Inner.Fields.{Content, Shaped, Finds, Ends, IsReadable, Names, SpellsBody, alone, named, field_of, SpellsField}
+use Rattle.scan_fmt.specs.Inner.Fields.{Content, Shaped, Finds, Ends, caret, NoDirective, IsReadable, Names, SpellsBody, alone, named, field_of, SpellsField}
 use Rattle.scan_fmt.specs.Scanned.{IsLongest}
 use Rattle.scan_fmt.proofs.Longest.{longest_stops, longest_cons}
 use Rattle.scan_fmt.proofs.Characters.{listing_none}

@@ -6,8 +6,8 @@ use Rattle.std.specs.Str.Parse.{AllDigits}
 use Rattle.std.proofs.lemmas.Bool.{and_parts, eqb-true}
 use Rattle.std.proofs.lemmas.Bool.Decides.{nat_tests}
 use Rattle.scan_fmt.specs.Grammar.{Notation, Decimal, Hexadecimal, Float, first}
-use Rattle.scan_fmt.specs.Scanned.{IsLongest, Optionally, IsSigned, IsPrefixed, IsFloat, IsNumber}
-use Rattle.scan_fmt.specs.Inner.Found.{begins_0x}
+use Rattle.scan_fmt.specs.Scanned.{IsLongest, Optionally, IsSigned, IsNumber}
+use Rattle.scan_fmt.specs.Inner.Found.{IsPrefixed, IsFloat, begins_0x}
 use Rattle.scan_fmt.proofs.Longest.{longest_stops, longest_stops_at, longest_same, longest_cons, longest_then}
 
 pub all_digits_more : (b c : ℕ) (xs more : List ℕ) → AllDigits b (xs ++ c ∷ more) → digit_value c < b

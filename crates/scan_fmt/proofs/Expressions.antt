@@ -26,9 +26,9 @@ use Rattle.regex_syntax.specs.Brackets.{Nested}
 use Rattle.regex_syntax.specs.Grammar.{Names, read}
 use Rattle.regex_syntax.specs.declared.error.Error as parser
 use Rattle.regex_syntax.proofs.CapturesLemmas.{spans, find_str_alike}
-use Rattle.scan_fmt.specs.Expressions.{anchored, expression, found_in, token_span}
+use Rattle.scan_fmt.specs.Expressions.{expression, found_in, token_span}
 use Rattle.scan_fmt.specs.Scanned.{Token, matched}
-use Rattle.scan_fmt.specs.Inner.Built.{IsBuilt}
+use Rattle.scan_fmt.specs.Inner.Built.{anchored, IsBuilt}
 use Rattle.scan_fmt.specs.Inner.Found.{AreParts, token_of}
 use Rattle.scan_fmt.proofs.Characters.{ascii_from, ascii_same}
 

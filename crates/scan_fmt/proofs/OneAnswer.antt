@@ -4,10 +4,11 @@ use Rattle.std.specs.Bool.{then_some}
 use Rattle.std.specs.Char.{digit_value}
 use Rattle.std.specs.Str.Parse.{AllDigits}
 use Rattle.scan_fmt.specs.Sets.{IsListing}
-use Rattle.scan_fmt.specs.Grammar.{Run, Until, Solid, Among, Decimal, Hexadecimal, Float, Characters, Number, Directive, Exactly, Field, Expression, AtEnd, first, star, caret, limit_of, Spells, Cuts, after_blanks}
+use Rattle.scan_fmt.specs.Grammar.{Run, Until, Solid, Among, Decimal, Hexadecimal, Float, Characters, Number, Directive, Exactly, Field, Expression, AtEnd, first, star, limit_of, Spells, Cuts, after_blanks}
 use Rattle.scan_fmt.specs.Expressions.{IsDelimited}
-use Rattle.scan_fmt.specs.Inner.Fields.{Content, Shaped, Finds, Ends, Names, SpellsBody, alone, named, field_of, SpellsField}
-use Rattle.scan_fmt.specs.Scanned.{MayTake, token_text, Token, Outcome, with_token, Passes, ended, refused, passed, Takes, tokens_of, OneAnswer}
+use Rattle.scan_fmt.specs.Inner.Fields.{Content, Shaped, Finds, Ends, caret, Names, SpellsBody, alone, named, field_of, SpellsField}
+use Rattle.scan_fmt.specs.Scanned.{MayTake, token_text, Token, Scanned, Passes, ended, refused, passed, Takes, tokens_of}
+use Rattle.scan_fmt.specs.Inner.Parts.{Outcome, with_token}
 use Rattle.scan_fmt.proofs.Longest.{longest_one}
 use Rattle.scan_fmt.proofs.Spelled.{heads, listing_one, names_head, named_longest, body_no_star, body_no_open, shape_body, expression_body, end_body}
 use Rattle.scan_fmt.proofs.Patterns.{pattern_one, pattern_open}
@@ -202,7 +203,7 @@ takes_one (d ∷ ds) input o p (passed n t r m pass go a) (passed k t' r' m' pas
     let more : m ≡ m' = takes_one ds r' m m' (subst (λ (q : List ℕ). Takes ds q m) both.1 go) go' in
     a ∙ ap (with_token t) more ∙ ap (λ (x : Option Token). with_token x m') both.0 ∙ sym b
 
-pub one_answer : OneAnswer
+pub one_answer : (input format : List ℕ) (x y : List Token) → Scanned input format x → Scanned input format y → x ≡ y
 one_answer input format x y a b =
     let same : a.directives ≡ b.directives = cuts_one a.directives b.directives format a.cut b.cut in
     let out : a.out ≡ b.out = takes_one b.directives input a.out b.out (subst (λ (ds : List Directive). Takes ds input a.out) same a.takes) b.takes in

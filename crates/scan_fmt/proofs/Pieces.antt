@@ -18,12 +18,9 @@ piece_is input front token behind p whole u v end start =
     let text : piece_text input p ≡ token = ap (take (p.end - p.start)) rest ∙ take_at token behind (p.end - p.start) long in
     let after : drop p.end input ≡ behind = ap (drop p.end) cut ∙ drop_at (front ++ token) behind p.end ends in
     record {
-      slice = record {
-        forward = omega arith;
-        within = omega arith;
-        starts = subst (IsCharBoundary input) starts (IsCharBoundary-at_seam input front (token ++ behind) whole (IsUtf8-append token behind u v));
-        ends = subst (IsCharBoundary input) ends (IsCharBoundary-at_seam input (front ++ token) behind cut v);
-      };
+      forward = omega arith;
+      starts = subst (IsCharBoundary input) starts (IsCharBoundary-at_seam input front (token ++ behind) whole (IsUtf8-append token behind u v));
+      ends = subst (IsCharBoundary input) ends (IsCharBoundary-at_seam input (front ++ token) behind cut v);
       text = ap chars text;
       behind = ap chars after;
     }

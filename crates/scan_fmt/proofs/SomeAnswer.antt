@@ -1,13 +1,14 @@
 -- Each format gives a list of tokens over each input: every shape has a longest front.
-use Rattle.std.proofs.Common.{◌≡◌, ◌≢◌, ◌⊎◌, ◌<◌, ◌≤◌, ℕ, Bool, true, false, List, [], ◌∷◌, ◌++◌, length, take, drop, Option, Some, None, sym, ap, subst, refl, inl, inr, ◌∙◌, arith}
+use Rattle.std.proofs.Common.{◌≡◌, ◌≢◌, ◌⊎◌, ◌<◌, ◌≤◌, ℕ, Bool, true, false, not, List, [], ◌∷◌, ◌++◌, length, take, drop, Option, Some, None, Ok, Err, sym, ap, subst, refl, inl, inr, ◌∙◌, arith}
 use Rattle.std.specs.List.{AllByRecursion}
 use Rattle.std.specs.Char.{digit_value}
 use Rattle.std.specs.Str.Parse.{AllDigits}
 use Rattle.std.proofs.lemmas.Bool.{cases_Bool, cases_eq, cases_lt}
 use Rattle.scan_fmt.specs.Grammar.{Run, Until, Solid, Among, Notation, Decimal, Hexadecimal, Float, Shape, Characters, Number, Directive, Exactly, Field, Expression, AtEnd, first, is_blank, after_blanks}
-use Rattle.scan_fmt.specs.Sets.{is_in_set}
-use Rattle.scan_fmt.specs.Scanned.{IsLongest, Optionally, IsSigned, IsPrefixed, IsFloat, IsNumber, Suits, MayTake, Token, Outcome, Found, Mismatch, with_token, Passes, Refuses, ended, refused, passed, Takes, tokens_of, SomeAnswer}
-use Rattle.scan_fmt.specs.Inner.Found.{begins_0x}
+use Rattle.scan_fmt.specs.Sets.{is_listed}
+use Rattle.scan_fmt.specs.Scanned.{IsLongest, Optionally, IsSigned, IsNumber, Suits, MayTake, Token, Scanned, Passes, ended, refused, passed, Takes, tokens_of}
+use Rattle.scan_fmt.specs.Inner.Parts.{Outcome, with_token, Refuses}
+use Rattle.scan_fmt.specs.Inner.Found.{IsPrefixed, IsFloat, begins_0x}
 use Rattle.scan_fmt.proofs.Longest.{longest_stops, longest_cons}
 use Rattle.scan_fmt.proofs.Digits.{signed_plain, optional_none, float, begins_0x_is, prefixed_x_cons, prefixed_0x_cons, prefixed_bare}
 use Rattle.scan_fmt.proofs.Spelled.{heads}
@@ -103,7 +104,7 @@ judge_test test false c = elim (cases_Bool (test c)) [ inl e ↦ inr (λ h. let 
 judge : (run : Run) (c : ℕ) → Suits run c ⊎ (Suits run c → ⊥)
 judge (Until stop) c = judge_until stop c
 judge Solid c = judge_test is_blank false c
-judge (Among inverted listing) c = judge_test (is_in_set inverted listing) true c
+judge (Among inverted listing) c = judge_test (is_listed listing) (not inverted) c
 
 number_found : (notation : Notation) (text : List ℕ) → Front (IsNumber notation) text
 number_found Decimal text = signed_found text
@@ -132,16 +133,16 @@ is_end (x ∷ xs) = inr (λ e. cc)
 
 takes_some : (ds : List Directive) (input : List ℕ) → (out : Outcome) × Takes ds input out
 unfolding Decided
-takes_some [] input = (Found [], refl)
+takes_some [] input = (Ok [], refl)
 takes_some (d ∷ ds) input = elim (is_end (after_blanks input)) [
-  | inl none ↦ (Found [], ended none refl)
+  | inl none ↦ (Ok [], ended none refl)
   | inr some ↦ elim (decided d (after_blanks input)) [
-    | inl refuses ↦ (Mismatch (after_blanks input), refused some refuses refl)
+    | inl refuses ↦ (Err (after_blanks input), refused some refuses refl)
     | inr (token, rest, passes) ↦ (let more = takes_some ds rest in (with_token token more.0, passed some token rest more.0 passes more.1 refl))
   ]
 ]
 
-pub some_answer : SomeAnswer
+pub some_answer : (input format : List ℕ) → (tokens : List Token) × Scanned input format tokens
 some_answer input format =
     let cut = cuts_some format in
     let out = takes_some cut.0 input in

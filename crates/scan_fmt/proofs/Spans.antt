@@ -7,8 +7,7 @@ use Rattle.std.proofs.lemmas.List.{get_or_default, length-set, get_or-set_same, 
 use Rattle.std.proofs.lemmas.List.Folds.{Any-from_list_any, list_any_at, list_any-append}
 use Rattle.std.proofs.lemmas.List.Sorted.{IsNonDecreasingBy-from_all_adjacent, all_adjacent_more}
 use Rattle.scan_fmt.specs.declared.set.Span.{Span}
-use Rattle.scan_fmt.specs.Sets.{is_between}
-use Rattle.scan_fmt.specs.Inner.Spans.{low_of, reach_of, is_covered, Rises}
+use Rattle.scan_fmt.specs.Inner.Spans.{is_between, low_of, reach_of, is_covered, Rises}
 
 leb_from : (a b : ℕ) → a ≤ b → leb a b ≡ true
 leb_from a b h = elim (cases_Bool (leb a b)) [

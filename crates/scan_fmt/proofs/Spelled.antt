@@ -4,9 +4,9 @@ use Rattle.std.specs.List.{AllByRecursion}
 use Rattle.std.specs.Char.{digit_value}
 use Rattle.std.specs.Str.Parse.{AllDigits}
 use Rattle.scan_fmt.specs.Sets.{IsListing}
-use Rattle.scan_fmt.specs.Grammar.{Until, Solid, Among, Decimal, Hexadecimal, Float, Shape, Characters, Number, Exactly, Field, Expression, AtEnd, first, star, caret, letter, limit_of, Limits, SpellsShape, Spells, NoDirective}
+use Rattle.scan_fmt.specs.Grammar.{Until, Solid, Among, Decimal, Hexadecimal, Float, Shape, Characters, Number, Exactly, Field, Expression, AtEnd, first, star, limit_of, Limits, SpellsShape, Spells}
 use Rattle.scan_fmt.specs.Expressions.{IsDelimited, expression}
-use Rattle.scan_fmt.specs.Inner.Fields.{Content, Shaped, Finds, Ends, IsReadable, Names, SpellsBody, alone, named, field_of, SpellsField}
+use Rattle.scan_fmt.specs.Inner.Fields.{Content, Shaped, Finds, Ends, caret, letter, NoDirective, IsReadable, Names, SpellsBody, alone, named, field_of, SpellsField}
 use Rattle.scan_fmt.specs.Scanned.{IsLongest}
 use Rattle.scan_fmt.proofs.Longest.{longest_stops, longest_one}
 use Rattle.scan_fmt.proofs.Digits.{all_digits_more}
@@ -96,7 +96,9 @@ named_spells : (s : Shape) (text ds name rest : List ℕ) → text ≡ ds ++ nam
 named_spells (Characters (Until stop)) text ds name rest e digits h = absurd h
 named_spells (Characters Solid) text ds name rest e digits h = (limit_of ds, (ds, e ∙ ap (λ (t : List ℕ). ds ++ t) h, digits, refl))
 named_spells (Characters (Among inverted listing)) text ds name rest e digits h = (limit_of ds, (ds, e ∙ ap (λ (t : List ℕ). ds ++ t) h.0, digits, refl), h.1)
-named_spells (Number notation own) text ds name rest e digits h = (ds, e ∙ ap (λ (t : List ℕ). ds ++ t) h.0, digits, h.1)
+named_spells (Number Decimal own) text ds name rest e digits h = (ds, e ∙ ap (λ (t : List ℕ). ds ++ t) h.0, digits, h.1)
+named_spells (Number Hexadecimal own) text ds name rest e digits h = (ds, e ∙ ap (λ (t : List ℕ). ds ++ t) h.0, digits, h.1)
+named_spells (Number Float own) text ds name rest e digits h = (ds, e ∙ ap (λ (t : List ℕ). ds ++ t) h.0, digits, h.1)
 
 body_spells : (s : Shape) (text rest : List ℕ) → SpellsBody (Shaped s) text rest → SpellsShape s text rest
 body_spells s text rest (alone stop is e at) = let same : s ≡ Characters (Until stop) = cc in subst (λ (z : Shape). SpellsShape z text rest) (sym same) (e, at)
@@ -110,7 +112,9 @@ pub shape_body : (s : Shape) (text rest : List ℕ) → SpellsShape s text rest 
 shape_body (Characters (Until stop)) text rest h = alone stop refl h.0 h.1
 shape_body (Characters Solid) text rest (any, (ds, e, digits, is)) = named (record { ds = ds; name = 115 ∷ 125 ∷ rest; whole = e; digits = digits; named = refl })
 shape_body (Characters (Among inverted listing)) text rest (any, (ds, e, digits, is), listed) = named (record { ds = ds; name = 91 ∷ (caret inverted ++ (listing ++ 93 ∷ 125 ∷ rest)); whole = e; digits = digits; named = (refl, listed) })
-shape_body (Number notation own) text rest (ds, e, digits, is) = named (record { ds = ds; name = letter notation ∷ 125 ∷ rest; whole = e; digits = digits; named = (refl, is) })
+shape_body (Number Decimal own) text rest (ds, e, digits, is) = named (record { ds = ds; name = letter Decimal ∷ 125 ∷ rest; whole = e; digits = digits; named = (refl, is) })
+shape_body (Number Hexadecimal own) text rest (ds, e, digits, is) = named (record { ds = ds; name = letter Hexadecimal ∷ 125 ∷ rest; whole = e; digits = digits; named = (refl, is) })
+shape_body (Number Float own) text rest (ds, e, digits, is) = named (record { ds = ds; name = letter Float ∷ 125 ∷ rest; whole = e; digits = digits; named = (refl, is) })
 
 pub end_body : (text rest : List ℕ) (any : Option ℕ) → Limits any (101 ∷ 125 ∷ rest) text → SpellsBody Ends text rest
 end_body text rest any (ds, e, digits, is) = named (record { ds = ds; name = 101 ∷ 125 ∷ rest; whole = e; digits = digits; named = refl })

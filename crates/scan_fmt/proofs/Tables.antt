@@ -1,7 +1,8 @@
 -- The table of a set, code by code, and its spans, range by range.
 use Rattle.std.proofs.Common.{◌≡◌, ◌≢◌, ◌<◌, ◌≤◌, ◌+◌, ◌||◌, ◌==◌, ℕ, Bool, true, false, List, [], ◌∷◌, refl, sym, ap, ◌∙◌, inl, inr, arith}
 use Rattle.std.proofs.lemmas.Bool.{cases_Bool, cases_eq, eqb-true, eq-eqb, ne_eqb}
-use Rattle.scan_fmt.specs.Sets.{is_between, is_in_ranges}
+use Rattle.scan_fmt.specs.Sets.{is_in_ranges}
+use Rattle.scan_fmt.specs.Inner.Spans.{is_between}
 use Rattle.scan_fmt.proofs.Spans.{between_parts, between_from}
 
 -- the codes below n were judged: the table has those that pass the test, and none from n on

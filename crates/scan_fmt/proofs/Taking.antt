@@ -1,31 +1,36 @@
 -- What the rest of the directives come to over the rest of the input, after the pieces so far; and the directives of a format so far.
-use Rattle.std.proofs.Common.{◌≡◌, ◌≢◌, ◌+◌, ◌≤◌, ℕ, Bool, true, false, cond, List, [], ◌∷◌, ◌++◌, length, take, drop, map, Some, None, sym, ap, subst, refl, inl, inr, ◌∙◌, arith, append_assoc, length-append, eqb}
+use Rattle.std.proofs.Common.{◌≡◌, ◌≢◌, ◌+◌, ◌≤◌, ℕ, Bool, true, false, cond, List, [], ◌∷◌, ◌++◌, length, take, drop, map, Some, None, Ok, Err, get_or, suc, zero, sym, ap, subst, refl, inl, inr, ◌∙◌, arith, append_assoc, length-append, eqb}
 use Rattle.std.specs.List.{AllByRecursion}
 use Rattle.std.specs.Str.{chars, IsUtf8, encode_utf8_all}
 use Rattle.std.proofs.lemmas.Bool.{cases_Bool}
 use Rattle.std.proofs.lemmas.List.{append-nil, take-append-drop}
 use Rattle.std.proofs.lemmas.Str.{chars-append, encodes-chars, encodes-append, IsUtf8-append}
-use Rattle.std.specs.List.{slice_index}
+use Rattle.std.specs.List.{slice_index, AllAdjacentBelow}
 use Rattle.std.specs.Str.Parse.{without_leading_plus}
 use Rattle.scan_fmt.specs.declared.slices.Piece.{Piece}
-use Rattle.scan_fmt.specs.Grammar.{Shape, Characters, Number, Decimal, Hexadecimal, Float, Directive, Spells, NoDirective, Cuts, is_blank, after_blanks}
-use Rattle.scan_fmt.specs.Scanned.{IsLongest, MayTake, Token, token_text, Outcome, Found, Mismatch, with_token, Passes, Refuses, ended, refused, passed, Takes, tokens_of, ScannedTexts}
-use Rattle.scan_fmt.specs.Slices.{piece_text, IsSlice, IsPiece, ArePieces, AreInOrder, ScannedPieces}
-use Rattle.scan_fmt.specs.Inner.Parts.{TakesPieces}
+use Rattle.scan_fmt.specs.Grammar.{Shape, Characters, Number, Decimal, Hexadecimal, Float, Directive, Spells, Cuts, is_blank, after_blanks}
+use Rattle.scan_fmt.specs.Scanned.{IsLongest, MayTake, Token, token_text, Passes, ended, refused, passed, Takes, tokens_of, ScannedTexts}
+use Rattle.scan_fmt.specs.Slices.{piece_text, IsPiece, ScannedPieces}
+use Rattle.scan_fmt.specs.Inner.Fields.{NoDirective}
+use Rattle.scan_fmt.specs.Inner.Parts.{IsSlice, ArePieces, AreInOrder, Outcome, with_token, Refuses, TakesPieces}
 use Rattle.scan_fmt.specs.Inner.Found.{AreParts, begins_0x}
 
 -- with these tokens in front
 abbrev pub after : List Token → Outcome → Outcome
-after done (Found tokens) = Found (done ++ tokens)
-after done (Mismatch input) = Mismatch input
+after done (Ok tokens) = Ok (done ++ tokens)
+after done (Err input) = Err input
 
 after_nil : (out : Outcome) → after [] out ≡ out
-after_nil (Found tokens) = refl
-after_nil (Mismatch input) = refl
+after_nil (Ok tokens) = refl
+after_nil (Err input) = refl
+
+none_in_front : (out : Outcome) → with_token None out ≡ out
+none_in_front (Ok tokens) = refl
+none_in_front (Err input) = refl
 
 after_token : (done : List Token) (token : Token) (out : Outcome) → after done (with_token (Some token) out) ≡ after (done ++ token ∷ []) out
-after_token done token (Found tokens) = ap Found (sym (append_assoc done (token ∷ []) tokens))
-after_token done token (Mismatch input) = refl
+after_token done token (Ok tokens) = ap Ok (sym (append_assoc done (token ∷ []) tokens))
+after_token done token (Err input) = refl
 
 -- pieces
 pieces_more : (input : List ℕ) (ps : List Piece) (ts : List Token) (p : Piece) (t : Token) → ArePieces input ps ts → IsPiece input p t → ArePieces input (ps ++ p ∷ []) (ts ++ t ∷ [])
@@ -42,7 +47,7 @@ pub slices_are : (input : List ℕ) (ps : List Piece) (ts : List Token) → AreP
 slices_are input [] [] h = tt
 slices_are input [] (t ∷ ts) h = absurd h
 slices_are input (p ∷ ps) [] h = absurd h
-slices_are input (p ∷ ps) (t ∷ ts) h = (h.0.slice, slices_are input ps ts h.1)
+slices_are input (p ∷ ps) (t ∷ ts) h = (record { forward = h.0.forward; within = h.0.ends.0; starts = h.0.starts; ends = h.0.ends }, slices_are input ps ts h.1)
 
 pub texts_are : (input : List ℕ) (ps : List Piece) (ts : List Token) → ArePieces input ps ts → map chars (map (piece_text input) ps) ≡ map (λ (t : Token). t.text) ts
 texts_are input [] [] h = refl
@@ -129,7 +134,7 @@ placed_passed all ds d input rest here left pieces so u v is some passes lies =
     let beyond = front_more input behind.front here left lies.0 behind.whole lies.1 in
     record {
       done = so.done;
-      goes = λ out h. so.goes out (passed (subst (λ (t : List ℕ). t ≢ []) is some) None (chars left) out (subst (λ (t : List ℕ). Passes d t None (chars left)) is passes) h refl);
+      goes = λ out h. so.goes out (passed (subst (λ (t : List ℕ). t ≢ []) is some) None (chars left) out (subst (λ (t : List ℕ). Passes d t None (chars left)) is passes) h (sym (none_in_front out)));
       are = so.are;
       front = beyond.front;
       whole = beyond.whole;
@@ -160,10 +165,10 @@ placed_taken all ds d input rest here token behind left pieces p so u v is some 
           (so.in_order (p ∷ more) (omega (arith, reached.longer, before.longer, bytes, starts), order_weaker p.end (length beyond.front) more (omega (arith, bytes, ends, beyond.longer, length-append before.front token)) h));
     }
 
-placed_done : (all ds : List Directive) (input rest : List ℕ) (pieces : List Piece) → Placed all input ds rest pieces → Takes ds (chars rest) (Found []) → TakesPieces all input pieces
+placed_done : (all ds : List Directive) (input rest : List ℕ) (pieces : List Piece) → Placed all input ds rest pieces → Takes ds (chars rest) (Ok []) → TakesPieces all input pieces
 placed_done all ds input rest pieces so h = record {
-  out = Found (so.done ++ []);
-  takes = so.goes (Found []) h;
+  out = Ok (so.done ++ []);
+  takes = so.goes (Ok []) h;
   are = subst (ArePieces input pieces) (sym (append-nil so.done)) so.are;
   in_order = subst (AreInOrder 0) (append-nil pieces) (so.in_order [] tt);
 }
@@ -178,18 +183,26 @@ placed_ended all ds d input rest here pieces so is none = placed_done all (d ∷
 pub placed_refused : (all ds : List Directive) (d : Directive) (input rest here : List ℕ) (pieces : List Piece) (p : Piece) → Placed all input (d ∷ ds) rest pieces → chars here ≡ after_blanks (chars rest) → chars here ≢ [] → Refuses d (chars here)
     → IsPiece input p (record { text = []; behind = chars here }) → TakesPieces all input (p ∷ [])
 placed_refused all ds d input rest here pieces p so is some refuses piece = record {
-  out = Mismatch (chars here);
-  takes = so.goes (Mismatch (chars here)) (refused (subst (λ (t : List ℕ). t ≢ []) is some) (subst (Refuses d) is refuses) (ap Mismatch is));
+  out = Err (chars here);
+  takes = so.goes (Err (chars here)) (refused (subst (λ (t : List ℕ). t ≢ []) is some) (subst (Refuses d) is refuses) (ap Err is));
   are = (piece, tt);
   in_order = (omega arith, tt);
 }
+
+adjacent : (from : ℕ) (ps : List Piece) → AreInOrder from ps → AllAdjacentBelow (λ (p q : Piece). p.end ≤ q.start) ps (length ps)
+adjacent from [] h k d under = absurd (omega arith)
+adjacent from (p ∷ []) h k d under = absurd (omega arith)
+adjacent from (p ∷ q ∷ ps) h zero d under = h.1.0
+adjacent from (p ∷ q ∷ ps) h (suc k) d under =
+    let next : suc (k + 1) ≡ suc k + 1 = omega arith in
+    subst (λ n. (get_or (q ∷ ps) k d).end ≤ (get_or (p ∷ q ∷ ps) n d).start) next (adjacent p.end (q ∷ ps) h.1 k d (omega arith))
 
 pub scanned_pieces : (input format : List ℕ) (ds : List Directive) (pieces : List Piece) → Cuts format ds → TakesPieces ds input pieces → ScannedPieces input format pieces
 scanned_pieces input format ds pieces cut so = record {
   tokens = tokens_of so.out;
   scanned = record { directives = ds; out = so.out; cut = cut; takes = so.takes; tokens_are = refl };
   are = so.are;
-  in_order = so.in_order;
+  in_order = adjacent 0 pieces so.in_order;
 }
 
 pub scanned_texts : (input format : List ℕ) (pieces : List Piece) (texts : List (List ℕ)) → ScannedPieces input format pieces → texts ≡ map (piece_text input) pieces → ScannedTexts (chars input) format (map chars texts)

@@ -16,13 +16,9 @@ abbrev pub IsDelimited : List ℕ → Type 0
 IsDelimited [] = ⊥
 IsDelimited (c ∷ cs) = IsUnbroken false cs
 
--- The pattern as a group that begins where the text begins.
-abbrev pub anchored : List ℕ → List ℕ
-anchored pattern = codes "^(?:" ++ (pattern ++ codes ")")
-
--- What `regex` reads in the anchored pattern: none where it isn't in the grammar of `regex` or nests deeper than `regex` allows.
+-- What `regex` reads in the pattern as a group that begins where the text begins: none where it isn't in the grammar of `regex` or nests deeper than `regex` allows.
 abbrev pub expression : List ℕ → Option Re
-expression pattern = option_and_then (λ (re, names). if nat_le re.depth default_config.nest_limit then Some re.value else None) (read default_config (anchored pattern))
+expression pattern = option_and_then (λ (re, names). if nat_le re.depth default_config.nest_limit then Some re.value else None) (read default_config (codes "^(?:" ++ (pattern ++ codes ")")))
 
 -- The first match of the pattern over a text, by the bytes of the text.
 abbrev pub found_in : List ℕ → List ℕ → Option Match

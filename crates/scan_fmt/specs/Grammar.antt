@@ -1,5 +1,5 @@
 -- A format is cut into directives: characters that the input must have, fields that take from it, and the demand that it has ended.
-use Rattle.std.specs.Prelude.{◌≡◌, ◌≢◌, ℕ, ◌^◌, ◌||◌, ◌==◌, ◌⊎◌, nat_lt, Bool, true, false, if◌then◌else◌, List, [], ◌∷◌, ◌++◌, codes, Option, None, Some, IsSome}
+use Rattle.std.specs.Prelude.{◌≡◌, ◌≢◌, ℕ, ◌^◌, ◌||◌, ◌==◌, ◌⊎◌, nat_lt, Bool, if◌then◌else◌, List, [], ◌∷◌, ◌++◌, codes, Option, None, Some, IsSome}
 use Rattle.std.specs.Str.{byte}
 use Rattle.std.specs.Str.Parse.{AllDigits, digits_value}
 use Rattle.scan_fmt.specs.Expressions.{IsDelimited, expression}
@@ -45,16 +45,6 @@ pub data Directive : Type 0 where
 abbrev pub star : Bool → List ℕ
 star stored = if stored then [] else codes "*"
 
--- a caret inverts a set
-abbrev pub caret : Bool → List ℕ
-caret inverted = if inverted then codes "^" else []
-
--- the letter of a number's field
-abbrev pub letter : Notation → ℕ
-letter Decimal = byte "d"
-letter Hexadecimal = byte "x"
-letter Float = byte "f"
-
 -- the limit that these digits give: none of them, 0 and what no usize holds are no limit
 abbrev pub limit_of : List ℕ → Option ℕ
 limit_of ds = if digits_value 10 ds == 0 then None else (if nat_lt (digits_value 10 ds) (2 ^ 64) then Some (digits_value 10 ds) else None)
@@ -63,12 +53,14 @@ limit_of ds = if digits_value 10 ds == 0 then None else (if nat_lt (digits_value
 abbrev pub Limits : Option ℕ → List ℕ → List ℕ → Type 0
 Limits limit name text = (ds : List ℕ) × (text ≡ ds ++ name) × AllDigits 10 ds × (limit ≡ limit_of ds)
 
--- what stands in a field's braces after its star, and then the rest: nothing, and the character after the brace stops the run, whichever it is; or digits and a name, and the digits limit a number alone
+-- what stands in a field's braces after its star, and then the rest: nothing, and the character after the brace stops the run, whichever it is; or digits and a letter or a set, which a caret inverts, and the digits limit a number alone
 abbrev pub SpellsShape : Shape → List ℕ → List ℕ → Type 0
 SpellsShape (Characters (Until stop)) text rest = (text ≡ byte "}" ∷ rest) × (stop ≡ first rest)
 SpellsShape (Characters Solid) text rest = (any : Option ℕ) × Limits any (codes "s}" ++ rest) text
-SpellsShape (Characters (Among inverted listing)) text rest = (any : Option ℕ) × Limits any (byte "[" ∷ (caret inverted ++ (listing ++ (codes "]}" ++ rest)))) text × IsListing inverted listing
-SpellsShape (Number notation limit) text rest = Limits limit (letter notation ∷ byte "}" ∷ rest) text
+SpellsShape (Characters (Among inverted listing)) text rest = (any : Option ℕ) × Limits any (byte "[" ∷ ((if inverted then codes "^" else []) ++ (listing ++ (codes "]}" ++ rest)))) text × IsListing inverted listing
+SpellsShape (Number Decimal limit) text rest = Limits limit (codes "d}" ++ rest) text
+SpellsShape (Number Hexadecimal limit) text rest = Limits limit (codes "x}" ++ rest) text
+SpellsShape (Number Float limit) text rest = Limits limit (codes "f}" ++ rest) text
 
 -- the format spells the directive and then the rest: a character but a brace stands for itself, `{{` for an opening brace, `}` and any character for that one; an expression has its pattern between slashes, and `regex` reads it; digits change nothing at an expression, and neither they nor a star at `{e}`
 abbrev pub Spells : Directive → List ℕ → List ℕ → Type 0
@@ -77,11 +69,7 @@ Spells (Field stored shape) format rest = (text : List ℕ) × (format ≡ byte 
 Spells (Expression stored pattern) format rest = (text : List ℕ) × (format ≡ byte "{" ∷ (star stored ++ text)) × (any : Option ℕ) × Limits any (byte "/" ∷ (pattern ++ (codes "/}" ++ rest))) text × IsDelimited pattern × IsSome (expression pattern)
 Spells AtEnd format rest = (text : List ℕ) × (starred : Bool) × (any : Option ℕ) × (format ≡ byte "{" ∷ (star starred ++ text)) × Limits any (codes "e}" ++ rest) text
 
--- no directive stands in front: the format has ended, it is a lone `}`, or its field is malformed or of a pattern that `regex` doesn't read
-abbrev pub NoDirective : List ℕ → Type 0
-NoDirective format = (d : Directive) (rest : List ℕ) → Spells d format rest → ⊥
-
--- the format is these directives, each after white space, up to where none stands in front
+-- the format is these directives, each after white space, up to where none stands in front: the format has ended, it is a lone `}`, or its field is malformed or of a pattern that `regex` doesn't read
 abbrev pub Cuts : List ℕ → List Directive → Type 0
-Cuts format [] = NoDirective (after_blanks format)
+Cuts format [] = (d : Directive) (rest : List ℕ) → Spells d (after_blanks format) rest → ⊥
 Cuts format (d ∷ ds) = (rest : List ℕ) × Spells d (after_blanks format) rest × Cuts rest ds

@@ -1,8 +1,8 @@
 -- Tokens as pieces of the input: where each stands, and which are left.
 use denote.Ref.{Bor}
-use Rattle.std.specs.Prelude.{◌≡◌, ℕ, ◌≤◌, List, [], ◌∷◌, length, map, drop, Option, ⊤}
+use Rattle.std.specs.Prelude.{◌≡◌, ℕ, ◌≤◌, List, length, map, drop, Option}
 use Rattle.std.specs.Iterator.{YieldsFirstRef}
-use Rattle.std.specs.List.{slice_range, AllZip}
+use Rattle.std.specs.List.{slice_range, AllZip, AllAdjacentBelow}
 use Rattle.std.specs.Str.{chars, IsCharBoundary}
 use Rattle.scan_fmt.specs.declared.slices.Piece.{Piece}
 use Rattle.scan_fmt.specs.Scanned.{Token, Scanned}
@@ -11,34 +11,20 @@ use Rattle.scan_fmt.specs.Scanned.{Token, Scanned}
 abbrev pub piece_text : List ℕ → Piece → List ℕ
 piece_text input p = slice_range input p.start p.end
 
--- the piece lies in the input and cuts no character
-pub record IsSlice (input : List ℕ) (piece : Piece) : Type 0 where
+-- the piece is where the token stands: it lies in the input and cuts no character, it has the token's text, and behind it stands what stands behind the token
+pub record IsPiece (input : List ℕ) (piece : Piece) (token : Token) : Type 0 where
   pub forward : piece.start ≤ piece.end
-  pub within : piece.end ≤ length input
   pub starts : IsCharBoundary input piece.start
   pub ends : IsCharBoundary input piece.end
-
--- the piece is where the token stands: it has the token's text, and behind it stands what stands behind the token
-pub record IsPiece (input : List ℕ) (piece : Piece) (token : Token) : Type 0 where
-  pub slice : IsSlice input piece
   pub text : chars (piece_text input piece) ≡ token.text
   pub behind : chars (drop piece.end input) ≡ token.behind
 
--- one piece for each token
-abbrev pub ArePieces : List ℕ → List Piece → List Token → Type 0
-ArePieces input = AllZip (IsPiece input)
-
--- each piece starts at or after the end of the one before, and the first at or after this place
-abbrev pub AreInOrder : ℕ → List Piece → Type 0
-AreInOrder from [] = ⊤
-AreInOrder from (p ∷ ps) = (from ≤ p.start) × AreInOrder p.end ps
-
--- these are the pieces of the tokens of the format over the input
+-- these are the pieces of the tokens of the format over the input, one for each token, and each starts at or after the end of the one before
 pub record ScannedPieces (input format : List ℕ) (pieces : List Piece) : Type 0 where
   pub tokens : List Token
   pub scanned : Scanned (chars input) format tokens
-  pub are : ArePieces input pieces tokens
-  pub in_order : AreInOrder 0 pieces
+  pub are : AllZip (IsPiece input) pieces tokens
+  pub in_order : AllAdjacentBelow (λ (p q : Piece). p.end ≤ q.start) pieces (length pieces)
 
 -- an input, the pieces of all its tokens, and how many of them were taken
 pub record Sliced : Type 0 where

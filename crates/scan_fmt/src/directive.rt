@@ -2,11 +2,11 @@
 ghost use Rattle.std.specs.Prelude.{◌≡◌, ◌≢◌, ◌<◌, ◌∷◌, ◌++◌, ℕ, List, Option, Bool, true, false, IfOk, IfNone, IfSome, codes};
 ghost use Rattle.std.specs.Str.{byte, chars};
 ghost use Rattle.std.specs.Str.Parse.{AllDigits};
-ghost use Rattle.scan_fmt.specs.Grammar.{after_blanks, limit_of, Spells, NoDirective};
+ghost use Rattle.scan_fmt.specs.Grammar.{after_blanks, limit_of, Spells};
 ghost use Rattle.scan_fmt.specs.Grammar.{Characters, Among, Field};
 ghost use Rattle.scan_fmt.specs.Expressions.{IsDelimited};
 ghost use Rattle.scan_fmt.specs.Scanned.{IsLongest};
-ghost use Rattle.scan_fmt.specs.Inner.Fields.{Content, Shaped, Names, SpellsBody, SpellsField, IsReadable, field_of};
+ghost use Rattle.scan_fmt.specs.Inner.Fields.{Content, Shaped, Names, SpellsBody, SpellsField, IsReadable, NoDirective, field_of};
 ghost use Rattle.scan_fmt.specs.Inner.Parts.{run_of, body_of, directive_of};
 ghost use Rattle.scan_fmt.specs.Sets.{IsListing};
 

@@ -2,8 +2,9 @@
 ghost use Rattle.std.specs.Prelude.{◌≡◌, ◌≤◌, drop, slice_range, IfOk, IfNone, IfSome, IsSome, string_bytes};
 ghost use Rattle.std.specs.Str.{chars};
 ghost use Rattle.regex.specs.Strings.{match_span, match_haystack};
-ghost use Rattle.scan_fmt.specs.Expressions.{anchored, expression, found_in};
+ghost use Rattle.scan_fmt.specs.Expressions.{expression, found_in};
 ghost use Rattle.scan_fmt.specs.Scanned.{matched};
+ghost use Rattle.scan_fmt.specs.Inner.Built.{anchored};
 ghost use Rattle.scan_fmt.specs.Inner.Found.{AreParts, token_of};
 
 use numerals::NoMemory;

@@ -3,8 +3,9 @@ ghost use Rattle.std.specs.Prelude.{◌≡◌, ◌∷◌, ℕ, ◌<◌, ◌≤�
 ghost use Rattle.std.specs.List.{AllByRecursion};
 ghost use Rattle.std.specs.Str.{byte, chars};
 ghost use Rattle.std.specs.Str.Parse.{without_leading_plus};
-ghost use Rattle.scan_fmt.specs.Scanned.{IsLongest, IsNumber, Suits, MayTake, without_0x, token_text};
+ghost use Rattle.scan_fmt.specs.Scanned.{IsLongest, IsNumber, Suits, MayTake, token_text};
 ghost use Rattle.scan_fmt.specs.Grammar.{Number, Exactly, Field, Expression as Finds};
+ghost use Rattle.scan_fmt.specs.Inner.Found.{without_0x};
 ghost use Rattle.scan_fmt.specs.Inner.Parts.{run_of, notation_of, shape_of, directive_of, IsPass, LiesIn};
 
 use crate::directive::{Directive, Notation, Run, Shape};

@@ -4,8 +4,8 @@ ghost use Rattle.std.specs.Char.{digit_value};
 ghost use Rattle.std.specs.Str.{byte};
 ghost use Rattle.std.specs.Str.Parse.{AllDigits};
 ghost use Rattle.scan_fmt.specs.Grammar.{first};
-ghost use Rattle.scan_fmt.specs.Scanned.{IsLongest, Optionally, IsSigned, IsPrefixed, IsFloat};
-ghost use Rattle.scan_fmt.specs.Inner.Found.{begins_0x};
+ghost use Rattle.scan_fmt.specs.Scanned.{IsLongest, Optionally, IsSigned};
+ghost use Rattle.scan_fmt.specs.Inner.Found.{IsPrefixed, IsFloat, begins_0x};
 
 fn is_digit(byte: u8, radix: u32) -> bool
     requires lower_bound { 2 ≤ radix }

@@ -1,10 +1,11 @@
 // The scan, its tokens, and typed readings of them.
-ghost use Rattle.std.specs.Prelude.{◌≡◌, ◌++◌, length, map, IfOk, string_bytes, Some, codes};
+ghost use Rattle.std.specs.Prelude.{◌≡◌, ◌++◌, ℕ, List, length, map, IfOk, string_bytes, Some, codes};
 ghost use Rattle.std.specs.Iterator.{YieldsFirst, at_most};
 ghost use Rattle.std.specs.Str.{chars};
-ghost use Rattle.scan_fmt.specs.Scanned.{ScannedTexts, OneAnswer, SomeAnswer};
+ghost use Rattle.std.specs.Vec.Iter.{into_iter_items};
+ghost use Rattle.scan_fmt.specs.Scanned.{Token, Scanned, ScannedTexts};
 ghost use Rattle.scan_fmt.specs.Slices.{ScannedPieces};
-ghost use Rattle.scan_fmt.specs.Tokens.{tokens_left, texts_left, ReadsNext};
+ghost use Rattle.scan_fmt.specs.Tokens.{texts_left, ReadsNext};
 
 use crate::directive::{Directive, next_directive};
 pub use crate::read::{ReadHex, ReadSlice, ReadToken};
@@ -51,9 +52,9 @@ impl Error for ScanError {}
 impl Iterator for Tokens {
     type Item = String;
 
-    ghost next_gives = { YieldsFirst tokens_left };
+    ghost next_gives = { YieldsFirst (λ t. into_iter_items t.tokens) };
 
-    ghost remaining = { λ t. at_most (length (tokens_left t)) };
+    ghost remaining = { λ t. at_most (length (into_iter_items t.tokens)) };
 
     fn next(&mut self) -> Option<String> {
         self.tokens.next()
@@ -172,10 +173,10 @@ pub fn scan_slices<'a>(alloc: Global, input: &'a str, format: &str) -> Result<Sl
 
 /// Over one input, one format gives one list of tokens.
 pub fn one_answer()
-    ensures { OneAnswer }
+    ensures { (input format : List ℕ) (a b : List Token) → Scanned input format a → Scanned input format b → a ≡ b }
 {}
 
 /// Each format gives a list of tokens over each input.
 pub fn some_answer()
-    ensures { SomeAnswer }
+    ensures { (input format : List ℕ) → (tokens : List Token) × Scanned input format tokens }
 {}

@@ -1,7 +1,8 @@
 // What a token reads as: std's reading of integers and `bool`, one character, the token itself, and integers in base 16.
-ghost use Rattle.std.specs.Prelude.{ℕ, List, Option, string_bytes};
+ghost use Rattle.std.specs.Prelude.{◌≡◌, ℕ, List, Option, IsSomeAnd, string_bytes};
 ghost use Rattle.std.specs.Int.{w8, w16, w32, w64, w128};
-ghost use Rattle.scan_fmt.specs.Values.{ReadsUnsigned, ReadsSigned, ReadsBool, ReadsChar, ReadsText, ReadsSlice};
+ghost use Rattle.std.specs.Str.Parse.{ParsesUnsigned, ParsesSigned, ParsesBool, ParsesChar};
+ghost use Rattle.scan_fmt.specs.Values.{ReadsBy};
 
 /// A type that a token may be read as.
 pub trait ReadToken: Sized {
@@ -34,7 +35,7 @@ pub trait ReadHex: Sized {
 }
 
 impl ReadToken for u8 {
-    ghost reads = { ReadsUnsigned 8 10 };
+    ghost reads = { ReadsBy (ParsesUnsigned 8 10) };
 
     fn read_token(token: String) -> Option<Self> {
         token.parse::<u8>().ok()
@@ -42,7 +43,7 @@ impl ReadToken for u8 {
 }
 
 impl ReadToken for u16 {
-    ghost reads = { ReadsUnsigned 16 10 };
+    ghost reads = { ReadsBy (ParsesUnsigned 16 10) };
 
     fn read_token(token: String) -> Option<Self> {
         token.parse::<u16>().ok()
@@ -50,7 +51,7 @@ impl ReadToken for u16 {
 }
 
 impl ReadToken for u32 {
-    ghost reads = { ReadsUnsigned 32 10 };
+    ghost reads = { ReadsBy (ParsesUnsigned 32 10) };
 
     fn read_token(token: String) -> Option<Self> {
         token.parse::<u32>().ok()
@@ -58,7 +59,7 @@ impl ReadToken for u32 {
 }
 
 impl ReadToken for u64 {
-    ghost reads = { ReadsUnsigned 64 10 };
+    ghost reads = { ReadsBy (ParsesUnsigned 64 10) };
 
     fn read_token(token: String) -> Option<Self> {
         token.parse::<u64>().ok()
@@ -66,7 +67,7 @@ impl ReadToken for u64 {
 }
 
 impl ReadToken for u128 {
-    ghost reads = { ReadsUnsigned 128 10 };
+    ghost reads = { ReadsBy (ParsesUnsigned 128 10) };
 
     fn read_token(token: String) -> Option<Self> {
         token.parse::<u128>().ok()
@@ -74,7 +75,7 @@ impl ReadToken for u128 {
 }
 
 impl ReadToken for usize {
-    ghost reads = { ReadsUnsigned 64 10 };
+    ghost reads = { ReadsBy (ParsesUnsigned 64 10) };
 
     fn read_token(token: String) -> Option<Self> {
         token.parse::<usize>().ok()
@@ -82,7 +83,7 @@ impl ReadToken for usize {
 }
 
 impl ReadToken for i8 {
-    ghost reads = { ReadsSigned w8 10 };
+    ghost reads = { ReadsBy (ParsesSigned w8 10) };
 
     fn read_token(token: String) -> Option<Self> {
         token.parse::<i8>().ok()
@@ -90,7 +91,7 @@ impl ReadToken for i8 {
 }
 
 impl ReadToken for i16 {
-    ghost reads = { ReadsSigned w16 10 };
+    ghost reads = { ReadsBy (ParsesSigned w16 10) };
 
     fn read_token(token: String) -> Option<Self> {
         token.parse::<i16>().ok()
@@ -98,7 +99,7 @@ impl ReadToken for i16 {
 }
 
 impl ReadToken for i32 {
-    ghost reads = { ReadsSigned w32 10 };
+    ghost reads = { ReadsBy (ParsesSigned w32 10) };
 
     fn read_token(token: String) -> Option<Self> {
         token.parse::<i32>().ok()
@@ -106,7 +107,7 @@ impl ReadToken for i32 {
 }
 
 impl ReadToken for i64 {
-    ghost reads = { ReadsSigned w64 10 };
+    ghost reads = { ReadsBy (ParsesSigned w64 10) };
 
     fn read_token(token: String) -> Option<Self> {
         token.parse::<i64>().ok()
@@ -114,7 +115,7 @@ impl ReadToken for i64 {
 }
 
 impl ReadToken for i128 {
-    ghost reads = { ReadsSigned w128 10 };
+    ghost reads = { ReadsBy (ParsesSigned w128 10) };
 
     fn read_token(token: String) -> Option<Self> {
         token.parse::<i128>().ok()
@@ -122,7 +123,7 @@ impl ReadToken for i128 {
 }
 
 impl ReadToken for isize {
-    ghost reads = { ReadsSigned w64 10 };
+    ghost reads = { ReadsBy (ParsesSigned w64 10) };
 
     fn read_token(token: String) -> Option<Self> {
         token.parse::<isize>().ok()
@@ -130,7 +131,7 @@ impl ReadToken for isize {
 }
 
 impl ReadToken for bool {
-    ghost reads = { ReadsBool };
+    ghost reads = { ReadsBy ParsesBool };
 
     fn read_token(token: String) -> Option<Self> {
         token.parse::<bool>().ok()
@@ -138,7 +139,7 @@ impl ReadToken for bool {
 }
 
 impl ReadToken for char {
-    ghost reads = { ReadsChar };
+    ghost reads = { ReadsBy ParsesChar };
 
     fn read_token(token: String) -> Option<Self> {
         token.parse::<char>().ok()
@@ -146,7 +147,7 @@ impl ReadToken for char {
 }
 
 impl ReadToken for String {
-    ghost reads = { ReadsText };
+    ghost reads = { λ text value. IsSomeAnd value (λ s. string_bytes s ≡ text) };
 
     fn read_token(token: String) -> Option<Self> {
         Some(token)
@@ -154,7 +155,7 @@ impl ReadToken for String {
 }
 
 impl<'a> ReadSlice<'a> for u8 {
-    ghost reads_slice = { ReadsUnsigned 8 10 };
+    ghost reads_slice = { ReadsBy (ParsesUnsigned 8 10) };
 
     fn read_slice(token: &'a str) -> Option<Self> {
         token.parse::<u8>().ok()
@@ -162,7 +163,7 @@ impl<'a> ReadSlice<'a> for u8 {
 }
 
 impl<'a> ReadSlice<'a> for u16 {
-    ghost reads_slice = { ReadsUnsigned 16 10 };
+    ghost reads_slice = { ReadsBy (ParsesUnsigned 16 10) };
 
     fn read_slice(token: &'a str) -> Option<Self> {
         token.parse::<u16>().ok()
@@ -170,7 +171,7 @@ impl<'a> ReadSlice<'a> for u16 {
 }
 
 impl<'a> ReadSlice<'a> for u32 {
-    ghost reads_slice = { ReadsUnsigned 32 10 };
+    ghost reads_slice = { ReadsBy (ParsesUnsigned 32 10) };
 
     fn read_slice(token: &'a str) -> Option<Self> {
         token.parse::<u32>().ok()
@@ -178,7 +179,7 @@ impl<'a> ReadSlice<'a> for u32 {
 }
 
 impl<'a> ReadSlice<'a> for u64 {
-    ghost reads_slice = { ReadsUnsigned 64 10 };
+    ghost reads_slice = { ReadsBy (ParsesUnsigned 64 10) };
 
     fn read_slice(token: &'a str) -> Option<Self> {
         token.parse::<u64>().ok()
@@ -186,7 +187,7 @@ impl<'a> ReadSlice<'a> for u64 {
 }
 
 impl<'a> ReadSlice<'a> for u128 {
-    ghost reads_slice = { ReadsUnsigned 128 10 };
+    ghost reads_slice = { ReadsBy (ParsesUnsigned 128 10) };
 
     fn read_slice(token: &'a str) -> Option<Self> {
         token.parse::<u128>().ok()
@@ -194,7 +195,7 @@ impl<'a> ReadSlice<'a> for u128 {
 }
 
 impl<'a> ReadSlice<'a> for usize {
-    ghost reads_slice = { ReadsUnsigned 64 10 };
+    ghost reads_slice = { ReadsBy (ParsesUnsigned 64 10) };
 
     fn read_slice(token: &'a str) -> Option<Self> {
         token.parse::<usize>().ok()
@@ -202,7 +203,7 @@ impl<'a> ReadSlice<'a> for usize {
 }
 
 impl<'a> ReadSlice<'a> for i8 {
-    ghost reads_slice = { ReadsSigned w8 10 };
+    ghost reads_slice = { ReadsBy (ParsesSigned w8 10) };
 
     fn read_slice(token: &'a str) -> Option<Self> {
         token.parse::<i8>().ok()
@@ -210,7 +211,7 @@ impl<'a> ReadSlice<'a> for i8 {
 }
 
 impl<'a> ReadSlice<'a> for i16 {
-    ghost reads_slice = { ReadsSigned w16 10 };
+    ghost reads_slice = { ReadsBy (ParsesSigned w16 10) };
 
     fn read_slice(token: &'a str) -> Option<Self> {
         token.parse::<i16>().ok()
@@ -218,7 +219,7 @@ impl<'a> ReadSlice<'a> for i16 {
 }
 
 impl<'a> ReadSlice<'a> for i32 {
-    ghost reads_slice = { ReadsSigned w32 10 };
+    ghost reads_slice = { ReadsBy (ParsesSigned w32 10) };
 
     fn read_slice(token: &'a str) -> Option<Self> {
         token.parse::<i32>().ok()
@@ -226,7 +227,7 @@ impl<'a> ReadSlice<'a> for i32 {
 }
 
 impl<'a> ReadSlice<'a> for i64 {
-    ghost reads_slice = { ReadsSigned w64 10 };
+    ghost reads_slice = { ReadsBy (ParsesSigned w64 10) };
 
     fn read_slice(token: &'a str) -> Option<Self> {
         token.parse::<i64>().ok()
@@ -234,7 +235,7 @@ impl<'a> ReadSlice<'a> for i64 {
 }
 
 impl<'a> ReadSlice<'a> for i128 {
-    ghost reads_slice = { ReadsSigned w128 10 };
+    ghost reads_slice = { ReadsBy (ParsesSigned w128 10) };
 
     fn read_slice(token: &'a str) -> Option<Self> {
         token.parse::<i128>().ok()
@@ -242,7 +243,7 @@ impl<'a> ReadSlice<'a> for i128 {
 }
 
 impl<'a> ReadSlice<'a> for isize {
-    ghost reads_slice = { ReadsSigned w64 10 };
+    ghost reads_slice = { ReadsBy (ParsesSigned w64 10) };
 
     fn read_slice(token: &'a str) -> Option<Self> {
         token.parse::<isize>().ok()
@@ -250,7 +251,7 @@ impl<'a> ReadSlice<'a> for isize {
 }
 
 impl<'a> ReadSlice<'a> for bool {
-    ghost reads_slice = { ReadsBool };
+    ghost reads_slice = { ReadsBy ParsesBool };
 
     fn read_slice(token: &'a str) -> Option<Self> {
         token.parse::<bool>().ok()
@@ -258,7 +259,7 @@ impl<'a> ReadSlice<'a> for bool {
 }
 
 impl<'a> ReadSlice<'a> for char {
-    ghost reads_slice = { ReadsChar };
+    ghost reads_slice = { ReadsBy ParsesChar };
 
     fn read_slice(token: &'a str) -> Option<Self> {
         token.parse::<char>().ok()
@@ -266,7 +267,7 @@ impl<'a> ReadSlice<'a> for char {
 }
 
 impl<'a> ReadSlice<'a> for &'a str {
-    ghost reads_slice = { ReadsSlice };
+    ghost reads_slice = { λ text value. IsSomeAnd value (λ s. s.now ≡ text) };
 
     fn read_slice(token: &'a str) -> Option<Self> {
         Some(token)
@@ -274,7 +275,7 @@ impl<'a> ReadSlice<'a> for &'a str {
 }
 
 impl ReadHex for u8 {
-    ghost reads_hex = { ReadsUnsigned 8 16 };
+    ghost reads_hex = { ReadsBy (ParsesUnsigned 8 16) };
 
     fn read_hex(token: &str) -> Option<Self> {
         u8::from_str_radix(token, 16).ok()
@@ -282,7 +283,7 @@ impl ReadHex for u8 {
 }
 
 impl ReadHex for u16 {
-    ghost reads_hex = { ReadsUnsigned 16 16 };
+    ghost reads_hex = { ReadsBy (ParsesUnsigned 16 16) };
 
     fn read_hex(token: &str) -> Option<Self> {
         u16::from_str_radix(token, 16).ok()
@@ -290,7 +291,7 @@ impl ReadHex for u16 {
 }
 
 impl ReadHex for u32 {
-    ghost reads_hex = { ReadsUnsigned 32 16 };
+    ghost reads_hex = { ReadsBy (ParsesUnsigned 32 16) };
 
     fn read_hex(token: &str) -> Option<Self> {
         u32::from_str_radix(token, 16).ok()
@@ -298,7 +299,7 @@ impl ReadHex for u32 {
 }
 
 impl ReadHex for u64 {
-    ghost reads_hex = { ReadsUnsigned 64 16 };
+    ghost reads_hex = { ReadsBy (ParsesUnsigned 64 16) };
 
     fn read_hex(token: &str) -> Option<Self> {
         u64::from_str_radix(token, 16).ok()
@@ -306,7 +307,7 @@ impl ReadHex for u64 {
 }
 
 impl ReadHex for u128 {
-    ghost reads_hex = { ReadsUnsigned 128 16 };
+    ghost reads_hex = { ReadsBy (ParsesUnsigned 128 16) };
 
     fn read_hex(token: &str) -> Option<Self> {
         u128::from_str_radix(token, 16).ok()
@@ -314,7 +315,7 @@ impl ReadHex for u128 {
 }
 
 impl ReadHex for usize {
-    ghost reads_hex = { ReadsUnsigned 64 16 };
+    ghost reads_hex = { ReadsBy (ParsesUnsigned 64 16) };
 
     fn read_hex(token: &str) -> Option<Self> {
         usize::from_str_radix(token, 16).ok()
@@ -322,7 +323,7 @@ impl ReadHex for usize {
 }
 
 impl ReadHex for i8 {
-    ghost reads_hex = { ReadsSigned w8 16 };
+    ghost reads_hex = { ReadsBy (ParsesSigned w8 16) };
 
     fn read_hex(token: &str) -> Option<Self> {
         i8::from_str_radix(token, 16).ok()
@@ -330,7 +331,7 @@ impl ReadHex for i8 {
 }
 
 impl ReadHex for i16 {
-    ghost reads_hex = { ReadsSigned w16 16 };
+    ghost reads_hex = { ReadsBy (ParsesSigned w16 16) };
 
     fn read_hex(token: &str) -> Option<Self> {
         i16::from_str_radix(token, 16).ok()
@@ -338,7 +339,7 @@ impl ReadHex for i16 {
 }
 
 impl ReadHex for i32 {
-    ghost reads_hex = { ReadsSigned w32 16 };
+    ghost reads_hex = { ReadsBy (ParsesSigned w32 16) };
 
     fn read_hex(token: &str) -> Option<Self> {
         i32::from_str_radix(token, 16).ok()
@@ -346,7 +347,7 @@ impl ReadHex for i32 {
 }
 
 impl ReadHex for i64 {
-    ghost reads_hex = { ReadsSigned w64 16 };
+    ghost reads_hex = { ReadsBy (ParsesSigned w64 16) };
 
     fn read_hex(token: &str) -> Option<Self> {
         i64::from_str_radix(token, 16).ok()
@@ -354,7 +355,7 @@ impl ReadHex for i64 {
 }
 
 impl ReadHex for i128 {
-    ghost reads_hex = { ReadsSigned w128 16 };
+    ghost reads_hex = { ReadsBy (ParsesSigned w128 16) };
 
     fn read_hex(token: &str) -> Option<Self> {
         i128::from_str_radix(token, 16).ok()
@@ -362,7 +363,7 @@ impl ReadHex for i128 {
 }
 
 impl ReadHex for isize {
-    ghost reads_hex = { ReadsSigned w64 16 };
+    ghost reads_hex = { ReadsBy (ParsesSigned w64 16) };
 
     fn read_hex(token: &str) -> Option<Self> {
         isize::from_str_radix(token, 16).ok()

@@ -3,8 +3,8 @@ ghost use Rattle.std.specs.Prelude.{◌≡◌, ◌∷◌, ◌||◌, ℕ, ◌<◌
 ghost use Rattle.std.specs.List.Sorted.{IsNonDecreasingBy};
 ghost use Rattle.std.specs.Str.{byte, chars};
 ghost use Rattle.percent_encoding.specs.AsciiSet.{contains};
-ghost use Rattle.scan_fmt.specs.Sets.{is_between, is_in_ranges, is_listed};
-ghost use Rattle.scan_fmt.specs.Inner.Spans.{is_covered, Rises, low_of};
+ghost use Rattle.scan_fmt.specs.Sets.{is_in_ranges, is_listed};
+ghost use Rattle.scan_fmt.specs.Inner.Spans.{is_between, is_covered, Rises, low_of};
 
 use crate::text::{split_first, strip};
 use numerals::NoMemory;

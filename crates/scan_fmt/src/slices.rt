@@ -3,9 +3,9 @@ ghost use Rattle.std.specs.Prelude.{◌≡◌, ◌+◌, ◌++◌, ◌∷◌, [],
 ghost use Rattle.std.specs.Iterator.{at_most};
 ghost use Rattle.std.specs.List.{AllByRecursion};
 ghost use Rattle.std.specs.Str.{chars};
-ghost use Rattle.scan_fmt.specs.Inner.Parts.{directive_of, TakesPieces};
+ghost use Rattle.scan_fmt.specs.Inner.Parts.{directive_of, IsSlice, TakesPieces};
 ghost use Rattle.scan_fmt.specs.Scanned.{Token};
-ghost use Rattle.scan_fmt.specs.Slices.{piece_text, IsSlice, IsPiece, slices_left, NextSlice};
+ghost use Rattle.scan_fmt.specs.Slices.{piece_text, IsPiece, slices_left, NextSlice};
 ghost use Rattle.scan_fmt.specs.Tokens.{ReadsNext};
 
 use crate::directive::Directive;
@@ -34,7 +34,8 @@ pub struct Slices<'a> {
 
 impl<'a> Model for Slices<'a> {
     ghost use Rattle.std.specs.List.{AllByRecursion};
-    ghost use Rattle.scan_fmt.specs.Slices.{Sliced, IsSlice};
+    ghost use Rattle.scan_fmt.specs.Slices.{Sliced};
+    ghost use Rattle.scan_fmt.specs.Inner.Parts.{IsSlice};
 
     ghost Value = { Sliced };
 

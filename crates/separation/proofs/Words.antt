@@ -23,7 +23,8 @@ use Rattle.scan_fmt.specs.Scanned.{Suits}
 use Rattle.values.specs.declared.kind.Kind.{Kind}
 use Rattle.values.specs.declared.kind.Kind.TheVariants.{U8, U16, U32, U64, Usize, I8, I16, I32, I64, Isize, Word, Char}
 use Rattle.values.specs.Datum.{Datum, natural, integer, word, character, IsOfKind}
-use Rattle.row_format.specs.Columns.{Column, text_or_none, field_text, width_of}
+use Rattle.row_format.specs.Columns.{Column, field_text, width_of}
+use Rattle.row_format.specs.Inner.Elements.{text_or_none}
 use Rattle.row_format.specs.Fit.{stop, IsFit, AreFit}
 use Rattle.row_format.specs.Plannable.{is_number, Converts, IsUnpaired, Never}
 use Rattle.separation.proofs.Sorts.{param_is, fills_is}

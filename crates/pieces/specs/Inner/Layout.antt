@@ -8,7 +8,7 @@ use Rattle.values.specs.declared.kind.Kind.{Kind}
 use Rattle.values.specs.declared.kind.Kind.TheVariants as Of
 use Rattle.tokens.specs.declared.Token.{Token}
 use Rattle.tokens.specs.Tokens.{AreTokens, IsToken}
-use Rattle.row_format.specs.Columns.{text_or_none}
+use Rattle.std.specs.Result.{result_unwrap_or}
 use Rattle.pieces.specs.declared.layout.Form.{Form}
 use Rattle.pieces.specs.declared.layout.Form.TheVariants.{Number, Signed, Copied, WithoutPlus, Field}
 use Rattle.pieces.specs.Inner.Source.{source_meaning}
@@ -39,7 +39,7 @@ token_text Number row token = numeral 10 false token.number
 token_text Signed row token = decimal_of (cast_signed w64 token.number)
 token_text Copied row token = slice_range row token.start token.end
 token_text WithoutPlus row token = without_plus (slice_range row token.start token.end)
-token_text (Field source f) row token = text_or_none ((source_meaning source row token).text f)
+token_text (Field source f) row token = result_unwrap_or ((source_meaning source row token).text f) []
 
 -- The text of a token that may be missing.
 abbrev pub text_where : Form → List ℕ → Option Token → List ℕ

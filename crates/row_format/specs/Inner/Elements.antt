@@ -1,8 +1,19 @@
 -- Elements one by one: literal text, or a field.
-use Rattle.std.specs.Prelude.{◌≡◌, ℕ, if◌then◌else◌, List, [], ◌∷◌, codes, Option, None, Some, ⊤}
+use Rattle.std.specs.Prelude.{◌≡◌, ℕ, if◌then◌else◌, List, [], ◌∷◌, codes, Option, None, Some, Result, ⊤}
+use Rattle.std.specs.Result.{result_unwrap_or}
+use Rattle.sprintf.specs.declared.PrintfError.{PrintfError}
+use Rattle.sprintf.specs.declared.parser.ConversionSpecifier.{ConversionSpecifier}
 use Rattle.sprintf.specs.declared.parser.FormatElement.{FormatElement}
 use Rattle.sprintf.specs.declared.parser.FormatElement.TheVariants.{Verbatim, Format}
-use Rattle.row_format.specs.Columns.{Column, is_percent}
+use Rattle.row_format.specs.Columns.{Column, Columns, is_percent}
+
+-- A field in front has the head behind it.
+abbrev pub with_field : ConversionSpecifier → Columns → Columns
+with_field f format = record { head = []; columns = record { field = f; after = format.head } ∷ format.columns }
+
+-- The text of an answer; a refusal has none.
+abbrev pub text_or_none : Result (List ℕ) PrintfError → List ℕ
+text_or_none answer = result_unwrap_or answer []
 
 -- The literal text that an element is; a field is none.
 abbrev pub literal_of : FormatElement → Option (List ℕ)

@@ -2,12 +2,12 @@
 use Rattle.std.proofs.Common.{◌≡◌, ◌⊎◌, ◌<◌, ◌≤◌, ◌+◌, ◌-◌, ◌^◌, ℕ, suc, pos, negsuc, Bool, true, false, cond, List, [], ◌∷◌, ◌++◌, length, replicate, Option, Some, sym, ap, subst, refl, inl, inr, ◌∙◌, arith, eqb, ne_eqb, FitsSigned, w8, w16, w32, w64}
 use Rattle.std.specs.Char.{digit_value}
 use Rattle.std.specs.Int.{Width}
-use Rattle.std.specs.Str.Parse.{digits_value, without_leading_plus}
+use Rattle.std.specs.Str.Parse.{ParsesUnsigned, ParsesSigned, digits_value, without_leading_plus}
 use Rattle.numerals.specs.Numeral.{numeral}
 use Rattle.sprintf.specs.declared.parser.ConversionType.TheVariants.{DecInt}
 use Rattle.scan_fmt.specs.Grammar.{Number, Decimal}
 use Rattle.scan_fmt.specs.Scanned.{IsSigned}
-use Rattle.scan_fmt.specs.Values.{ReadsUnsigned, ReadsSigned}
+use Rattle.scan_fmt.specs.Values.{ReadsBy}
 use Rattle.values.specs.declared.kind.Kind.{Kind}
 use Rattle.values.specs.Datum.{natural, integer}
 use Rattle.row_format.specs.Plannable.{by_bits}
@@ -17,7 +17,7 @@ use Rattle.row_laws.proofs.Fields.Digits.{Body, numeral_body, zeros_body, digits
 use Rattle.row_laws.proofs.Fields.Shown.{Standing}
 use Rattle.row_laws.proofs.Fields.Layout.{filled, Parts, Full, number_standing}
 
-reads_nat : (bits n : ℕ) (t : List ℕ) → Body 10 n t → n < 2 ^ bits → ReadsUnsigned bits 10 t (Some n)
+reads_nat : (bits n : ℕ) (t : List ℕ) → Body 10 n t → n < 2 ^ bits → ReadsBy (ParsesUnsigned bits 10) t (Some n)
 reads_nat bits n t b small =
     let same : without_leading_plus t ≡ t = digits_kept t b.each in
     rw same (((b.some, b.each), omega (arith, b.value, small)), sym b.value)
@@ -26,7 +26,7 @@ not_sign : (c d : ℕ) → digit_value c < 10 → (d ≡ 43) ⊎ (d ≡ 45) → 
 not_sign c d h (inl k) e = let bad : digit_value 43 < 10 = subst (λ x. digit_value x < 10) (e ∙ k) h in omega (arith, bad)
 not_sign c d h (inr k) e = let bad : digit_value 45 < 10 = subst (λ x. digit_value x < 10) (e ∙ k) h in omega (arith, bad)
 
-reads_pos : (w : Width) (n : ℕ) (t : List ℕ) → Body 10 n t → FitsSigned w (pos n) → ReadsSigned w 10 t (Some (pos n))
+reads_pos : (w : Width) (n : ℕ) (t : List ℕ) → Body 10 n t → FitsSigned w (pos n) → ReadsBy (ParsesSigned w 10) t (Some (pos n))
 reads_pos w n [] b fits = absurd (omega (arith, b.some))
 reads_pos w n (c ∷ cs) b fits =
     let minus : eqb c 45 ≡ false = ne_eqb c 45 (λ e. not_sign c 45 (b.each).0 (inr refl) e) in
@@ -34,7 +34,7 @@ reads_pos w n (c ∷ cs) b fits =
     let v : digits_value 10 (c ∷ cs) ≡ n = b.value in
     rw (minus, plus) (((b.some, b.each), subst (λ m. FitsSigned w (pos m)) (sym v) fits), ap pos (sym v))
 
-reads_neg : (w : Width) (n : ℕ) (t : List ℕ) → Body 10 (suc n) t → FitsSigned w (negsuc n) → ReadsSigned w 10 (45 ∷ t) (Some (negsuc n))
+reads_neg : (w : Width) (n : ℕ) (t : List ℕ) → Body 10 (suc n) t → FitsSigned w (negsuc n) → ReadsBy (ParsesSigned w 10) (45 ∷ t) (Some (negsuc n))
 reads_neg w n t b fits =
     let v : digits_value 10 t ≡ suc n = b.value in
     rw v (((b.some, b.each), fits), refl)
@@ -42,7 +42,7 @@ reads_neg w n t b fits =
 zeros_before : (n z : ℕ) → n < 2 ^ 128 → Body 10 n (replicate z 48 ++ numeral 10 false n)
 zeros_before n z small = zeros_body 10 n z (numeral 10 false n) (omega arith) (numeral_body 10 n false (omega arith) (omega arith) small)
 
-nat_parts : (bits n : ℕ) → n < 2 ^ 128 → n < 2 ^ bits → Parts IsSigned (λ t. ReadsUnsigned bits 10 (without_leading_plus t) (Some n)) [] [] (numeral 10 false n)
+nat_parts : (bits n : ℕ) → n < 2 ^ 128 → n < 2 ^ bits → Parts IsSigned (λ t. ReadsBy (ParsesUnsigned bits 10) (without_leading_plus t) (Some n)) [] [] (numeral 10 false n)
 nat_parts bits n wide small = record {
   front_plain = tt;
   mid_plain = tt;
@@ -52,7 +52,7 @@ nat_parts bits n wide small = record {
   reads = λ z. let b = zeros_before n z wide in rw (digits_kept _ b.each) (reads_nat bits n _ b small);
 }
 
-pos_parts : (w : Width) (n : ℕ) → n < 2 ^ 128 → FitsSigned w (pos n) → Parts IsSigned (λ t. ReadsSigned w 10 (without_leading_plus t) (Some (pos n))) [] [] (numeral 10 false n)
+pos_parts : (w : Width) (n : ℕ) → n < 2 ^ 128 → FitsSigned w (pos n) → Parts IsSigned (λ t. ReadsBy (ParsesSigned w 10) (without_leading_plus t) (Some (pos n))) [] [] (numeral 10 false n)
 pos_parts w n wide fits = record {
   front_plain = tt;
   mid_plain = tt;
@@ -62,7 +62,7 @@ pos_parts w n wide fits = record {
   reads = λ z. let b = zeros_before n z wide in rw (digits_kept _ b.each) (reads_pos w n _ b fits);
 }
 
-plus_parts : (w : Width) (n : ℕ) → n < 2 ^ 128 → FitsSigned w (pos n) → Parts IsSigned (λ t. ReadsSigned w 10 (without_leading_plus t) (Some (pos n))) [] (43 ∷ []) (numeral 10 false n)
+plus_parts : (w : Width) (n : ℕ) → n < 2 ^ 128 → FitsSigned w (pos n) → Parts IsSigned (λ t. ReadsBy (ParsesSigned w 10) (without_leading_plus t) (Some (pos n))) [] (43 ∷ []) (numeral 10 false n)
 plus_parts w n wide fits = record {
   front_plain = tt;
   mid_plain = ((omega arith, refl), tt);
@@ -72,7 +72,7 @@ plus_parts w n wide fits = record {
   reads = λ z. reads_pos w n _ (zeros_before n z wide) fits;
 }
 
-neg_parts : (w : Width) (n : ℕ) → suc n < 2 ^ 128 → FitsSigned w (negsuc n) → Parts IsSigned (λ t. ReadsSigned w 10 (without_leading_plus t) (Some (negsuc n))) [] (45 ∷ []) (numeral 10 false (suc n))
+neg_parts : (w : Width) (n : ℕ) → suc n < 2 ^ 128 → FitsSigned w (negsuc n) → Parts IsSigned (λ t. ReadsBy (ParsesSigned w 10) (without_leading_plus t) (Some (negsuc n))) [] (45 ∷ []) (numeral 10 false (suc n))
 neg_parts w n wide fits = record {
   front_plain = tt;
   mid_plain = ((omega arith, refl), tt);

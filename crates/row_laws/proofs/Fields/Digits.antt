@@ -8,7 +8,8 @@ use Rattle.numerals.specs.Numeral.{numeral, IsDigitText, text_value}
 use Rattle.numerals.proofs.Digits.{AllBelow-from_digits, digits_from-AllBelow, digits_value-text_value}
 use Rattle.numerals.proofs.Reading.{numeral_reads}
 use Rattle.scan_fmt.specs.Grammar.{is_blank}
-use Rattle.scan_fmt.specs.Scanned.{IsSigned, IsPrefixed}
+use Rattle.scan_fmt.specs.Scanned.{IsSigned}
+use Rattle.scan_fmt.specs.Inner.Found.{IsPrefixed}
 use Rattle.row_laws.proofs.Fields.Spaces.{AllPlain}
 
 digit_plain : (c : ℕ) → digit_value c < 16 → (c < 128) × (is_blank c ≡ false)

@@ -5,7 +5,7 @@ use Rattle.std.specs.Str.Parse.{AllDigits}
 use Rattle.numerals.specs.Numeral.{numeral, IsDigitText, text_value}
 use Rattle.sprintf.specs.declared.parser.ConversionType.TheVariants.{HexIntLower, HexIntUpper}
 use Rattle.scan_fmt.specs.Grammar.{Number, Hexadecimal}
-use Rattle.scan_fmt.specs.Scanned.{IsPrefixed, without_0x}
+use Rattle.scan_fmt.specs.Inner.Found.{IsPrefixed, without_0x}
 use Rattle.values.specs.declared.kind.Kind.{Kind}
 use Rattle.values.specs.Datum.{Datum}
 use Rattle.row_format.specs.Row.{Reads}

@@ -4,7 +4,8 @@ use Rattle.std.specs.List.{AllByRecursion}
 use Rattle.std.specs.Char.{digit_value}
 use Rattle.std.specs.Str.Parse.{AllDigits}
 use Rattle.scan_fmt.specs.Grammar.{first, Run, Characters, Number, Decimal, Hexadecimal}
-use Rattle.scan_fmt.specs.Scanned.{IsSigned, IsPrefixed, Optionally, Suits, MayTake, IsLongest}
+use Rattle.scan_fmt.specs.Scanned.{IsSigned, Optionally, Suits, MayTake, IsLongest}
+use Rattle.scan_fmt.specs.Inner.Found.{IsPrefixed}
 use Rattle.row_laws.specs.Inner.Directives.{limit_when}
 
 -- a longer front of the same text has one more character

@@ -16,7 +16,8 @@ use Rattle.sprintf.specs.Values.{character_where, signed_character}
 use Rattle.values.specs.declared.kind.Kind.{Kind}
 use Rattle.values.specs.declared.kind.Kind.TheVariants.{U8, U16, U32, U64, Usize, I8, I16, I32, I64, Isize, Word, Char}
 use Rattle.values.specs.Datum.{natural, integer, word, character, IsOfKind}
-use Rattle.row_format.specs.Columns.{text_or_none, field_text, width_of}
+use Rattle.row_format.specs.Columns.{field_text, width_of}
+use Rattle.row_format.specs.Inner.Elements.{text_or_none}
 use Rattle.row_format.specs.Plannable.{is_number, Converts, by_bits}
 use Rattle.row_laws.proofs.Fields.Layout.{filled, when}
 use Rattle.row_laws.proofs.Fields.Text.{filled_text, uncut}

@@ -1,10 +1,24 @@
 -- What a field's digits and name stand for, where an expression and `{e}` are fields too.
-use Rattle.std.specs.Prelude.{◌≡◌, ℕ, Bool, List, ◌∷◌, ◌++◌, codes, Option, IsSome, ⊤}
+use Rattle.std.specs.Prelude.{◌≡◌, ℕ, Bool, if◌then◌else◌, List, [], ◌∷◌, ◌++◌, codes, Option, IsSome, ⊤}
 use Rattle.std.specs.Str.{byte}
 use Rattle.std.specs.Str.Parse.{AllDigits}
 use Rattle.scan_fmt.specs.Expressions.{IsDelimited, expression}
 use Rattle.scan_fmt.specs.Sets.{IsListing}
-use Rattle.scan_fmt.specs.Grammar.{Until, Solid, Among, Shape, Characters, Number, Directive, Field, Expression, AtEnd, star, caret, first, letter, limit_of}
+use Rattle.scan_fmt.specs.Grammar.{Until, Solid, Among, Notation, Decimal, Hexadecimal, Float, Shape, Characters, Number, Directive, Field, Expression, AtEnd, star, first, limit_of, Spells}
+
+-- a caret inverts a set
+abbrev pub caret : Bool → List ℕ
+caret inverted = if inverted then codes "^" else []
+
+-- the letter of a number's field
+abbrev pub letter : Notation → ℕ
+letter Decimal = byte "d"
+letter Hexadecimal = byte "x"
+letter Float = byte "f"
+
+-- no directive stands in front
+abbrev pub NoDirective : List ℕ → Type 0
+NoDirective format = (d : Directive) (rest : List ℕ) → Spells d format rest → ⊥
 
 -- what a field asks for: something of a shape, what a pattern finds, or that the input has ended
 pub data Content : Type 0 where

@@ -1,6 +1,8 @@
 -- What the program's own types for the parts of a format stand for, and what one directive does to an input.
-use Rattle.std.specs.Prelude.{◌≡◌, ℕ, List, ◌++◌, None, Some, ⊤}
-use Rattle.std.specs.Str.{chars}
+use Rattle.std.specs.Prelude.{◌≡◌, ℕ, ◌≤◌, List, [], ◌∷◌, ◌++◌, length, Option, None, Some, Result, ⊤}
+use Rattle.std.specs.List.{AllZip, cons_option}
+use Rattle.std.specs.Result.{result_map_both}
+use Rattle.std.specs.Str.{chars, IsCharBoundary}
 use Rattle.scan_fmt.specs.declared.directive.Run.{Run as RunPart}
 use Rattle.scan_fmt.specs.declared.directive.Run.TheVariants.{Until as UntilPart, Solid as SolidPart, Among as AmongPart}
 use Rattle.scan_fmt.specs.declared.directive.Notation.{Notation as NotationPart}
@@ -15,8 +17,8 @@ use Rattle.scan_fmt.specs.declared.field.Pass.{Pass}
 use Rattle.scan_fmt.specs.declared.field.Pass.TheVariants.{Mismatch, Passed, Taken}
 use Rattle.scan_fmt.specs.Grammar.{Run, Until, Solid, Among, Notation, Decimal, Hexadecimal, Float, Shape, Characters, Number, Directive, Exactly, Field, Expression, AtEnd}
 use Rattle.scan_fmt.specs.declared.slices.Piece.{Piece}
-use Rattle.scan_fmt.specs.Slices.{ArePieces, AreInOrder}
-use Rattle.scan_fmt.specs.Scanned.{Outcome, Passes, Refuses, Takes, tokens_of}
+use Rattle.scan_fmt.specs.Slices.{IsPiece}
+use Rattle.scan_fmt.specs.Scanned.{Token, Passes, Takes, tokens_of}
 use Rattle.scan_fmt.specs.Inner.Found.{AreParts}
 use Rattle.scan_fmt.specs.Inner.Fields.{Content, Shaped, Finds, Ends}
 
@@ -48,6 +50,18 @@ directive_of (FieldPart stored shape) = Field stored (shape_of shape)
 directive_of (ExpressionPart stored expression) = Expression stored expression
 directive_of End = AtEnd
 
+-- the directive passes no front of the input
+abbrev pub Refuses : Directive → List ℕ → Type 0
+Refuses d input = (token : Option Token) (rest : List ℕ) → Passes d input token rest → ⊥
+
+-- what a scan comes to: the tokens, or what was left of the input where it didn't fit
+abbrev pub Outcome : Type 0
+Outcome = Result (List Token) (List ℕ)
+
+-- the outcome with this token in front, if there is one
+abbrev pub with_token : Option Token → Outcome → Outcome
+with_token token out = result_map_both (cons_option token) (λ place. place) out
+
 -- the input doesn't fit, or a front was passed with or without a token
 abbrev pub IsPass : Directive → List ℕ → Pass → Type 0
 IsPass d input Mismatch = Refuses d input
@@ -59,6 +73,22 @@ abbrev pub LiesIn : List ℕ → Pass → Type 0
 LiesIn input Mismatch = ⊤
 LiesIn input (Passed rest) = (front : List ℕ) × (input ≡ front ++ rest.now)
 LiesIn input (Taken token behind rest) = AreParts input token.now behind.now rest.now
+
+-- the piece lies in the input and cuts no character
+pub record IsSlice (input : List ℕ) (piece : Piece) : Type 0 where
+  pub forward : piece.start ≤ piece.end
+  pub within : piece.end ≤ length input
+  pub starts : IsCharBoundary input piece.start
+  pub ends : IsCharBoundary input piece.end
+
+-- one piece for each token
+abbrev pub ArePieces : List ℕ → List Piece → List Token → Type 0
+ArePieces input = AllZip (IsPiece input)
+
+-- each piece starts at or after the end of the one before, and the first at or after this place
+abbrev pub AreInOrder : ℕ → List Piece → Type 0
+AreInOrder from [] = ⊤
+AreInOrder from (p ∷ ps) = (from ≤ p.start) × AreInOrder p.end ps
 
 -- these are the pieces of the tokens that the directives come to over the input
 pub record TakesPieces (ds : List Directive) (input : List ℕ) (pieces : List Piece) : Type 0 where

@@ -1,9 +1,12 @@
 -- Spans of characters, by which a set looks a character up.
-use Rattle.std.specs.Prelude.{ℕ, Bool, List}
+use Rattle.std.specs.Prelude.{ℕ, Bool, ◌&&◌, nat_le, List}
 use Rattle.std.specs.List.{list_any}
 use Rattle.std.specs.List.Sorted.{IsNonDecreasingBy}
 use Rattle.scan_fmt.specs.declared.set.Span.{Span}
-use Rattle.scan_fmt.specs.Sets.{is_between}
+
+-- the character lies between the ends of a range, both included
+abbrev pub is_between : ℕ → ℕ → ℕ → Bool
+is_between low high c = nat_le low c && nat_le c high
 
 -- the character that a span begins with
 abbrev pub low_of : Span → ℕ

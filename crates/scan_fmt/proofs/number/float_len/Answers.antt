@@ -2,7 +2,8 @@ use Rattle.std.proofs.Common.{◌+◌, List, ℕ, take, drop}
 use Rattle.std.specs.Str.Parse.{AllDigits}
 use Rattle.std.proofs.lemmas.List.{drop-drop, take_rest}
 use Rattle.std.proofs.Math.Seq.{take-add}
-use Rattle.scan_fmt.specs.Scanned.{IsLongest, Optionally, IsSigned, IsFloat}
+use Rattle.scan_fmt.specs.Scanned.{IsLongest, Optionally, IsSigned}
+use Rattle.scan_fmt.specs.Inner.Found.{IsFloat}
 use Rattle.scan_fmt.proofs.Digits.{float}
 use Rattle.scan_fmt.proofs.number.float_len.Goals as goal
 

@@ -1,6 +1,7 @@
 use Rattle.std.proofs.Common.{◌≡◌, ◌+◌, suc, arith, refl, subst, take, drop}
 use Rattle.std.proofs.lemmas.List.{take_rest}
-use Rattle.scan_fmt.specs.Scanned.{IsLongest, IsPrefixed}
+use Rattle.scan_fmt.specs.Scanned.{IsLongest}
+use Rattle.scan_fmt.specs.Inner.Found.{IsPrefixed}
 use Rattle.scan_fmt.proofs.Digits.{prefixed_0x, prefixed_x, prefixed_bare}
 use Rattle.scan_fmt.proofs.number.prefixed_len.Goals as goal
 

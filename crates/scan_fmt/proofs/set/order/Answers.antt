@@ -1,7 +1,7 @@
 use Rattle.std.proofs.Common.{◌∙◌, sym, rules}
 use Rattle.std.proofs.lemmas.List.Sorted.{IsNonDecreasingBy-from_sort_by_key, list_any-IsPermutation}
 use Rattle.scan_fmt.specs.declared.set.Span.{Span}
-use Rattle.scan_fmt.specs.Sets.{is_between}
+use Rattle.scan_fmt.specs.Inner.Spans.{is_between}
 use Rattle.scan_fmt.specs.Inner.Spans.{low_of}
 use Rattle.scan_fmt.proofs.set.order.Goals as goal
 

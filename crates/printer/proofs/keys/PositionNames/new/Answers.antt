@@ -1,4 +1,4 @@
-use Rattle.std.proofs.Common.{rules, ◌≡◌, [], ◌∷◌, ◌++◌, ◌∙◌, ap, List, ℕ, Option}
+use Rattle.std.proofs.Common.{rules, ◌≡◌, [], ◌∷◌, ◌++◌, ◌∙◌, ap, List, ℕ}
 use Rattle.formatx.specs.Scene.{named, with_name}
 use Rattle.printer.proofs.KeyLemmas.{word_named, position_named}
 use Rattle.printer.proofs.keys.PositionNames.new.Goals as goal
