@@ -1,7 +1,6 @@
 -- What patterns of strfmt that are a key alone print.
-use Rattle.std.proofs.Common.{◌≡◌, ◌≢◌, ℕ, zero, suc, ◌+◌, ◌-◌, ◌<◌, ◌≤◌, ◌^◌, ◌==◌, ℤ, pos, negsuc, Bool, true, false, not, cond, if◌then◌else◌, List, [], ◌∷◌, ◌++◌, length, get_or, map, take, drop, slice_get, Option, Some, None, Ok, Err, refl, sym, ap, subst, ◌∙◌, w8, w16, w32, w64, Fits, FitsSigned, encode_utf8, encode_utf8_all, chars, codes, arith, append-nil, append_assoc, bytes_eq}
+use Rattle.std.proofs.Common.{◌≡◌, ◌≢◌, ℕ, suc, ◌+◌, ◌-◌, ◌<◌, ◌≤◌, ◌^◌, ◌==◌, ℤ, pos, negsuc, Bool, true, false, not, cond, if◌then◌else◌, List, [], ◌∷◌, ◌++◌, length, map, take, drop, slice_get, Option, Some, None, Ok, Err, refl, sym, ap, subst, ◌∙◌, w8, w16, w32, w64, Fits, FitsSigned, encode_utf8, encode_utf8_all, chars, codes, arith, append-nil, append_assoc}
 use Rattle.std.specs.Fmt.{decimal, signed_decimal}
-use Rattle.std.specs.Bool.{⊤}
 use Rattle.std.specs.Int.{Width, is_negative, cast_signed}
 use Rattle.std.specs.List.{position_or_len}
 use Rattle.std.specs.Prelude.{option_and_then, slice_index, slice_range}
@@ -11,11 +10,9 @@ use Rattle.std.proofs.Math.Seq.{take-length}
 use Rattle.std.proofs.lemmas.Bool.Decides.{nat_tests}
 use Rattle.std.proofs.lemmas.Fmt.{IsAscii-decimal}
 use Rattle.std.proofs.lemmas.List.{drop_all}
-use Rattle.std.proofs.lemmas.Slice.Eq.{bytes_eq-Decides}
 use Rattle.std.proofs.lemmas.Str.{IsUtf8-from_ascii, encodes-chars}
 use Rattle.itoa.proofs.Decimal.{IsAscii-signed_decimal}
 use Rattle.numerals.specs.Numeral.{numeral}
-use Rattle.numerals.proofs.Steps.{numeral-decimal_digits, numeral-injective, numeral-some}
 use Rattle.numerals.proofs.Unique.{numeral-decimal}
 use Rattle.formatx.specs.Values.{decimal_of}
 use Rattle.strfmt.specs.Fault.{Outcome}

@@ -1,5 +1,5 @@
 // What a field of a printf format prints of a token.
-ghost use Rattle.std.specs.Prelude.{◌≡◌, ◌++◌, IsTrue, OnErr, OnOk, string_bytes};
+ghost use Rattle.std.specs.Prelude.{◌≡◌, ◌++◌, [], IsTrue, OnErr, OnOk, string_bytes};
 ghost use Rattle.sprintf.specs.Values.{arg_meaning};
 ghost use Rattle.std.specs.Result.{result_unwrap_or};
 ghost use Rattle.pieces.specs.Inner.Layout.{IsTokenOfSome};

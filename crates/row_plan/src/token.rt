@@ -1,5 +1,5 @@
 // One token, read to a value of its field's kind.
-ghost use Rattle.std.specs.Prelude.{◌≡◌, ◌↔◌, IsTrue};
+ghost use Rattle.std.specs.Prelude.{◌≡◌, ◌≢◌, ◌∷◌, [], ℕ, ◌↔◌, IsTrue, MatchOption};
 ghost use Rattle.std.specs.List.{AllByRecursion};
 ghost use Rattle.std.specs.Str.{chars};
 ghost use Rattle.numerals.specs.Numeral.{base_of};
@@ -121,11 +121,18 @@ fn word(stop: Option<char>, token: &str) -> Option<RowValue<'_>>
     Some(RowValue::Word(token))
 }
 
+/// The one character of the token.
+fn one_character(token: &str) -> Option<char>
+    ensures { MatchOption result ((c : ℕ) → chars token.now ≢ c ∷ []) (λ c. chars token.now ≡ c ∷ []) }
+{
+    char::read_slice(token)
+}
+
 /// The token as one character, where it fits.
 fn character(stop: Option<char>, token: &str) -> Option<Value>
     ensures { Finds (λ value. IsTextOf (chars token.now) value × MayStandBefore stop value) Kind.Char result }
 {
-    let character = char::read_slice(token)?;
+    let character = one_character(token)?;
     if !suits(stop, character) {
         return None;
     }
